@@ -2,6 +2,7 @@
 #![tactic(auto)]
 
 mod diag;
+mod event;
 mod fault;
 mod outcome;
 mod rule;
@@ -9,6 +10,7 @@ mod ty;
 mod value;
 
 pub use diag::{Diag, Mark};
+pub use event::Event;
 pub use fault::RunFault;
 pub use outcome::Outcome;
 pub use rule::Rule;
