@@ -1,0 +1,6 @@
+//! The program `gd`.
+#![tactic(auto)]
+
+mod source;
+
+fn main() {}
