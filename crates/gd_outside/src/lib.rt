@@ -1,13 +1,10 @@
-// A library with one function.
+//! What lies outside the program: the files that it reads and the text that it writes.
 #![tactic(auto)]
 
-ghost use Rattle.std.specs.Prelude.{◌≡◌};
-ghost use Rattle.gd_outside.specs.Echo.{echo_of};
+mod path;
+mod shelf;
+mod sink;
 
-// The `ensures` clause is the contract: what `echo` returns is `echo_of` of its argument, a definition
-// in `specs/Echo.antt`, which a caller's clause can cite too.
-pub fn echo(x: usize) -> usize
-    ensures { result ≡ echo_of x }
-{
-    x
-}
+pub use path::{Path, PathFault};
+pub use shelf::{FailedCall, Shelf, ShelfFault};
+pub use sink::{Sink, SinkFault};
