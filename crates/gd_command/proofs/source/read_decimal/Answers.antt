@@ -1,8 +1,7 @@
-use Rattle.std.proofs.Common.{◌≡◌, ◌<◌, ◌^◌, ℕ, decimal, arith, sym, ap, ◌∙◌}
+use Rattle.std.proofs.Common.{◌≡◌, decimal, arith, sym, ap, ◌∙◌}
 use Rattle.std.proofs.Common.{not}
 use Rattle.std.proofs.lemmas.Bool.{false≢true}
 use Rattle.std.proofs.lemmas.Slice.Eq.{bytes_eq-Decides}
-use Rattle.std.specs.Prelude.{Ok}
 use Rattle.std.proofs.lemmas.Fmt.{parse-decimal}
 use Rattle.gd_command.proofs.source.read_decimal.Goals as goal
 

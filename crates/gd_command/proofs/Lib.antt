@@ -1,0 +1,2 @@
+mod Close
+mod LinesLemmas
