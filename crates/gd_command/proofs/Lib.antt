@@ -1,2 +1,3 @@
 mod Close
 mod LinesLemmas
+mod WordsLemmas

@@ -1,2 +1,3 @@
 pub mod Close
 pub mod Lines
+pub mod Words

@@ -2,5 +2,7 @@
 #![tactic(auto)]
 
 mod source;
+mod status;
+mod words;
 
 fn main() {}
