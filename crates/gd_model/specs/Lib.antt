@@ -1,2 +1,7 @@
 pub mod Fault
 pub mod Rule
+pub mod Key
+pub mod Thing
+pub mod KeyHash
+pub mod Place
+pub mod Refusal

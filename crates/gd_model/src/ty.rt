@@ -1,5 +1,10 @@
+//! The types of the language, and the values of constants.
+ghost use Rattle.std.specs.Prelude.{◌≡◌, ◌↔◌, IfOk, IsTrue};
+
 use gd_syntax::{Seq, Text};
+use no_memory::NoMemory;
 use sqlite_items::Boxed;
+use std::alloc::Global;
 
 /// A type. Class 0 is RefCounted, and class k, from 1, is the k-th of the class order.
 #[derive(Drop)]
@@ -23,6 +28,62 @@ pub enum Ty {
     Meta(u32),
     /// The type of an expression that has an error.
     Bad,
+}
+
+impl Ty {
+    /// Whether the two are one type.
+    pub fn same(&self, other: &Ty) -> bool
+        ensures { IsTrue result ↔ (self.now ≡ other.now) }
+    {
+        match (self, other) {
+            (Ty::DictOf(k, v), Ty::DictOf(l, w)) => k.get().same(l.get()) && v.get().same(w.get()),
+            (Ty::ArrayOf(t), Ty::ArrayOf(u)) => t.get().same(u.get()),
+            (Ty::Class(c), Ty::Class(d)) => *c == *d,
+            (Ty::Meta(c), Ty::Meta(d)) => *c == *d,
+            (Ty::Variant, Ty::Variant) => true,
+            (Ty::Nil, Ty::Nil) => true,
+            (Ty::Bool, Ty::Bool) => true,
+            (Ty::Int, Ty::Int) => true,
+            (Ty::Str, Ty::Str) => true,
+            (Ty::Callable, Ty::Callable) => true,
+            (Ty::Signal, Ty::Signal) => true,
+            (Ty::Dict, Ty::Dict) => true,
+            (Ty::Array, Ty::Array) => true,
+            (Ty::Void, Ty::Void) => true,
+            (Ty::Bad, Ty::Bad) => true,
+            _ => false,
+        }
+    }
+
+    /// A copy of the type.
+    pub fn copy(&self, alloc: Global) -> Result<Ty, NoMemory>
+        ensures { IfOk result (λ t. t ≡ self.now) }
+    {
+        Ok(match self {
+            Ty::Variant => Ty::Variant,
+            Ty::Nil => Ty::Nil,
+            Ty::Bool => Ty::Bool,
+            Ty::Int => Ty::Int,
+            Ty::Str => Ty::Str,
+            Ty::Callable => Ty::Callable,
+            Ty::Signal => Ty::Signal,
+            Ty::Dict => Ty::Dict,
+            Ty::DictOf(k, v) => {
+                let key = k.get().copy(alloc)?;
+                let value = v.get().copy(alloc)?;
+                Ty::DictOf(Boxed::new(alloc, key)?, Boxed::new(alloc, value)?)
+            }
+            Ty::Array => Ty::Array,
+            Ty::ArrayOf(t) => {
+                let element = t.get().copy(alloc)?;
+                Ty::ArrayOf(Boxed::new(alloc, element)?)
+            }
+            Ty::Class(c) => Ty::Class(*c),
+            Ty::Void => Ty::Void,
+            Ty::Meta(c) => Ty::Meta(*c),
+            Ty::Bad => Ty::Bad,
+        })
+    }
 }
 
 /// The value of a constant.

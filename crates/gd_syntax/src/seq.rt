@@ -1,5 +1,6 @@
 //! A `Vec` that contracts see as the list of its items.
 ghost use Rattle.std.specs.Prelude.{◌≡◌};
+ghost use Rattle.std.specs.Borrow.{sem};
 
 use std::marker::Model;
 
@@ -21,6 +22,8 @@ impl<T> Model for Seq<T> {
 }
 
 impl<T> Seq<T> {
+    ghost use Rattle.gd_syntax.specs.Lending.{lends_items};
+
     /// The list of these items.
     pub fn of(items: Vec<T>) -> Seq<T>
         ensures { result ≡ items.items }
@@ -33,5 +36,13 @@ impl<T> Seq<T> {
         ensures { result.now ≡ self.now }
     {
         self.items.as_slice()
+    }
+
+    /// The items in order, to be changed in place: their number stays.
+    pub fn items_mut(&mut self) -> &mut [T]
+        ensures* writes_back { sem 𝓛 (lends_items T.row self.entry result) }
+        ensures value { result.now ≡ self.old }
+    {
+        self.items.as_mut_slice()
     }
 }

@@ -1,0 +1,42 @@
+-- The answers that a call decides on before it writes.
+use Rattle.std.specs.Prelude.{◌≡◌, ◌≢◌, ℕ, List, [], ◌∷◌, ◌++◌, codes, decimal, Contains}
+use Rattle.std.specs.List.{flat_map}
+use Rattle.gd_outside.specs.Files.{File, place_of, paths_of}
+use Rattle.gd_outside.specs.declared.shelf.FailedCall.{FailedCall}
+use Rattle.gd_outside.specs.declared.shelf.FailedCall.TheVariants.{List as Listing, Read}
+use Rattle.gd_meaning.specs.declared.Statement.{Statement}
+use Rattle.gd_meaning.specs.declared.Statement.TheVariants.{Pass, Print}
+use Rattle.gd_command.specs.Output.{scripts, usage_line}
+use Rattle.gd_command.specs.declared.answer.Answer.{Answer}
+use Rattle.gd_command.specs.declared.answer.Answer.TheVariants.{Usage, ListFault, ReadFault, NotBuilt, Ran}
+use Rattle.gd_command.specs.declared.status.Status.{Status}
+use Rattle.gd_command.specs.declared.status.Status.TheVariants as status
+
+-- what a statement prints
+abbrev pub printed_of : Statement → List ℕ
+printed_of Pass = []
+printed_of (Print n) = decimal n ++ (10 ∷ [])
+
+-- the text of an answer
+abbrev pub answer_text : Answer → List ℕ
+answer_text Usage = usage_line
+answer_text ListFault = codes "read fault: list\n"
+answer_text (ReadFault path) = codes "read fault: " ++ (path ++ (10 ∷ []))
+answer_text NotBuilt = codes "not built\n"
+answer_text (Ran statements) = flat_map printed_of statements
+
+-- its status
+abbrev pub answer_status : Answer → Status
+answer_status Usage = status.Usage
+answer_status ListFault = status.ReadFault
+answer_status (ReadFault _) = status.ReadFault
+answer_status NotBuilt = status.NotBuilt
+answer_status (Ran _) = status.Done
+
+-- the answer is what such a text and status mean; a fault is that of the call that failed last
+abbrev pub IsAnswer : (List ℕ → Status → Type 0) → List File → FailedCall → Answer → Type 0
+IsAnswer output files failed Usage = output usage_line status.Usage
+IsAnswer output files failed ListFault = failed ≡ Listing
+IsAnswer output files failed (ReadFault path) = (failed ≡ Read (place_of files path)) × Contains (paths_of (scripts files)) path
+IsAnswer output files failed NotBuilt = output (codes "not built\n") status.NotBuilt
+IsAnswer output files failed (Ran statements) = output (flat_map printed_of statements) status.Done
