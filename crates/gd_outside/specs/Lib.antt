@@ -1,5 +1,6 @@
 pub mod Cause
 pub mod Files
+pub mod MemoryShelf
 pub mod Path
 pub mod Shelf
 pub mod Sink
