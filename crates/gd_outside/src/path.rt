@@ -1,9 +1,14 @@
 //! The path of a file of a project.
-ghost use Rattle.std.specs.Prelude.{◌≡◌, ◌↔◌, IfOk, OnOk, IsErrOf, IsTrue};
+ghost use Rattle.std.specs.Prelude.{◌≡◌, ◌↔◌, Some, IfOk, OnOk, IsErrOf, IsTrue, nat_eq};
+ghost use Rattle.std.specs.Cmp.{partial_equiv_from_equiv};
+ghost use Rattle.std.specs.Cmp.Lexicographic.{nat_list_cmp_total, nat_list_eq_equiv, pointwise, slice_cmp, texts_po, texts_ties};
+ghost use Rattle.std.specs.Ordering.{nat_cmp};
+ghost use Rattle.std.proofs.Common.{rules};
 ghost use Rattle.gd_outside.specs.Path.{IsPath, is_segment};
 ghost use Rattle.gd_outside.specs.declared.path.PathFault.TheVariants.{Bad, NoMemory};
 
 use std::alloc::{AllocError, Global};
+use std::cmp::Ordering;
 use std::marker::Model;
 use thiserror::Error;
 
@@ -77,6 +82,55 @@ impl Path {
         ensures path { IsPath self.now }
     {
         self.text.as_str()
+    }
+}
+
+impl Clone for Path {
+    ghost is_clone = { λ path copy. copy ≡ path };
+
+    fn clone(&self) -> Result<Path, AllocError> {
+        Ok(Path {
+            text: self.text.clone()?,
+        })
+    }
+}
+
+// Paths compare by their bytes.
+impl PartialEq for Path {
+    ghost eq = { pointwise nat_eq };
+
+    ghost laws = { partial_equiv_from_equiv nat_list_eq_equiv };
+
+    fn eq(&self, other: &Path) -> bool {
+        self.text() == other.text()
+    }
+}
+
+impl Eq for Path {
+    ghost laws = { nat_list_eq_equiv };
+}
+
+impl PartialOrd for Path {
+    ghost partial_cmp = { λ x y. Some (slice_cmp nat_cmp x y) };
+
+    ghost laws = { texts_po };
+
+    fn partial_cmp(&self, other: &Path) -> Option<Ordering> {
+        Some(self.cmp(other))
+    }
+}
+
+impl Ord for Path {
+    ghost cmp = { slice_cmp nat_cmp };
+
+    ghost total = { nat_list_cmp_total };
+
+    ghost matches_partial_cmp = { Prim.search rules };
+
+    ghost matches_eq = { texts_ties };
+
+    fn cmp(&self, other: &Path) -> Ordering {
+        self.text().cmp(other.text())
     }
 }
 
