@@ -1,3 +1,4 @@
 mod Close
 mod LinesLemmas
+mod PutsLemmas
 mod WordsLemmas

@@ -1,0 +1,12 @@
+use Rattle.std.proofs.Common.{sym, subst, List, ℕ, arith}
+use Rattle.std.specs.List.{flat_map}
+use Rattle.gd_outside.specs.Sink.{AppendsPrefix}
+use Rattle.gd_command.specs.Answer.{printed_of}
+use Rattle.gd_command.proofs.PutsLemmas.{Puts-err, AppendsPrefix-then, AppendsPrefix-more, flat_map_round}
+use Rattle.gd_command.proofs.print.print_statements.Goals as goal
+
+pub returns-in_err-print_statement-clause-puts : goal.returns-in_err-print_statement-clause-puts
+returns-in_err-print_statement-clause-puts g c =
+    let printed = AppendsPrefix-then _ _ _ _ _ c.loop-statement.invariant.0 c.in_err-print_statement.ensures.puts in
+    let round = flat_map_round printed_of c.args.statements.now c.loop-statement.statement-index _ (omega arith) in
+    Puts-err _ _ _ _ c.from_residual.ensures.0 (subst (λ text. AppendsPrefix (g.K.Sink.contents c.args.out.now) text (g.K.Sink.contents c.print_statement.new.out)) (sym round) (AppendsPrefix-more _ _ _ _ printed))
