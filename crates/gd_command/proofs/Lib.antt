@@ -1,4 +1,6 @@
+mod CallLemmas
 mod Close
 mod LinesLemmas
 mod PutsLemmas
+mod RunLemmas
 mod WordsLemmas

@@ -6,6 +6,7 @@ use Rattle.gd_outside.specs.declared.shelf.FailedCall.{FailedCall}
 use Rattle.gd_outside.specs.declared.shelf.FailedCall.TheVariants.{List as Listing, Read}
 use Rattle.gd_meaning.specs.declared.Statement.{Statement}
 use Rattle.gd_meaning.specs.declared.Statement.TheVariants.{Pass, Print}
+use Rattle.gd_meaning.specs.Source.{IsSource}
 use Rattle.gd_command.specs.Output.{scripts, usage_line}
 use Rattle.gd_command.specs.declared.answer.Answer.{Answer}
 use Rattle.gd_command.specs.declared.answer.Answer.TheVariants.{Usage, ListFault, ReadFault, NotBuilt, Ran}
@@ -40,3 +41,19 @@ IsAnswer output files failed ListFault = failed ≡ Listing
 IsAnswer output files failed (ReadFault path) = (failed ≡ Read (place_of files path)) × Contains (paths_of (scripts files)) path
 IsAnswer output files failed NotBuilt = output (codes "not built\n") status.NotBuilt
 IsAnswer output files failed (Ran statements) = output (flat_map printed_of statements) status.Done
+
+-- the answer says that the shelf failed
+abbrev pub IsFaultOf : Answer → Type 0
+IsFaultOf Usage = ⊥
+IsFaultOf ListFault = Unit {0}
+IsFaultOf (ReadFault _) = Unit {0}
+IsFaultOf NotBuilt = ⊥
+IsFaultOf (Ran _) = ⊥
+
+-- the answer for a script with this source
+abbrev pub RunsSource : List ℕ → Answer → Type 0
+RunsSource source Usage = ⊥
+RunsSource source ListFault = ⊥
+RunsSource source (ReadFault _) = ⊥
+RunsSource source NotBuilt = (statements : List Statement) → IsSource source statements → ⊥
+RunsSource source (Ran statements) = IsSource source statements

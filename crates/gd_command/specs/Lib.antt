@@ -1,4 +1,5 @@
 pub mod Answer
+pub mod Call
 pub mod Close
 pub mod Lines
 pub mod Output

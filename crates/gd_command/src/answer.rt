@@ -1,4 +1,5 @@
 //! The answers that a call decides on before it writes.
+use crate::status::Status;
 use gd_meaning::Statement;
 use gd_outside::Path;
 use gd_syntax::Seq;
@@ -16,4 +17,21 @@ pub enum Answer {
     NotBuilt,
     /// The script ran these statements.
     Ran(Seq<Statement>),
+}
+
+impl Answer {
+    ghost use Rattle.std.specs.Prelude.{◌≡◌};
+    ghost use Rattle.gd_command.specs.Answer.{answer_status};
+
+    /// The status with which the call ends once the answer is written.
+    pub fn status(&self) -> Status
+        ensures { result ≡ answer_status self.now }
+    {
+        match self {
+            Answer::Usage => Status::Usage,
+            Answer::ListFault | Answer::ReadFault(_) => Status::ReadFault,
+            Answer::NotBuilt => Status::NotBuilt,
+            Answer::Ran(_) => Status::Done,
+        }
+    }
 }

@@ -3,8 +3,10 @@
 
 mod answer;
 mod print;
+mod run;
 mod source;
 mod status;
+mod top;
 mod words;
 
 fn main() {}

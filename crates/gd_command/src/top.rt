@@ -1,0 +1,60 @@
+//! The call that does all that the program does.
+ghost use Rattle.std.specs.Prelude.{◌≡◌, IfSome, IfOk, ◌≤◌};
+ghost use Rattle.gd_outside.specs.Cause.{Rose};
+ghost use Rattle.gd_command.specs.Words.{words_of};
+ghost use Rattle.gd_command.specs.Output.{Output, NoCommand};
+ghost use Rattle.gd_command.specs.Answer.{IsAnswer, IsFaultOf, answer_status};
+ghost use Rattle.gd_command.specs.Call.{Adds, Writes};
+ghost use Rattle.gd_command.specs.declared.answer.Answer.{Answer};
+ghost use Rattle.gd_command.specs.declared.answer.Answer.TheVariants.{Usage as UsageAnswer};
+
+use crate::answer::Answer;
+use crate::print::print;
+use crate::run::run;
+use crate::status::Status;
+use crate::words::{Command, WordsFault, read_words};
+use gd_outside::{Shelf, Sink, SinkFault};
+use no_memory::NoMemory;
+use std::alloc::Global;
+
+/// Does what the words ask for: reads files from the shelf and writes text to the sink.
+///
+/// `words` are those after the program's name. `Usage` where they are no command; `ReadFault` where the
+/// shelf failed, and `WriteFault` where the sink did; `NoMemory` where no memory was left; `NotBuilt` where
+/// the project is one that cannot be run yet (docs/command-line.md).
+pub fn gd<H: Shelf, K: Sink>(alloc: Global, words: &[String], shelf: &mut H, out: &mut K) -> Status
+    // Over a shelf that tells its files, the text and the status are those that the words mean.
+    ensures output { IfSome (H.files shelf.old) (λ files. Adds (K.contents out.old) (K.contents out.new)
+        (Writes (words_of words.now) files (H.failed shelf.new) (Rose (H.faults shelf.old) (H.faults shelf.new)) result)) }
+
+    // Faults come from the outside alone.
+    ensures usage { result ≡ Status.Usage → NoCommand (words_of words.now) }
+    ensures read_fault { result ≡ Status.ReadFault → Rose (H.faults shelf.old) (H.faults shelf.new) }
+    ensures write_fault { result ≡ Status.WriteFault → Rose (K.faults out.old) (K.faults out.new) }
+{
+    let Ok(answer) = decide(alloc, words, shelf) else {
+        return Status::NoMemory;
+    };
+    match print(&answer, out) {
+        Ok(()) => answer.status(),
+        Err(SinkFault::Failed) => Status::WriteFault,
+        Err(SinkFault::NoMemory) => Status::NoMemory,
+    }
+}
+
+/// What the words are answered, before anything is written.
+fn decide<H: Shelf>(alloc: Global, words: &[String], shelf: &mut H) -> Result<Answer, NoMemory>
+    ensures told { IfSome (H.files shelf.old) (λ files. IfOk result (IsAnswer (Output (words_of words.now) files) files (H.failed shelf.new))) }
+    ensures usage { IfOk result (λ answer. answer ≡ UsageAnswer → NoCommand (words_of words.now)) }
+    ensures faults { H.faults shelf.old ≤ H.faults shelf.new }
+    ensures cause { IfOk result (λ answer. IsFaultOf answer → Rose (H.faults shelf.old) (H.faults shelf.new)) }
+{
+    let command = match read_words(alloc, words) {
+        Ok(command) => command,
+        Err(WordsFault::NoForm) => return Ok(Answer::Usage),
+        Err(WordsFault::NoMemory) => return Err(NoMemory),
+    };
+    match command {
+        Command::Run(main) => run(alloc, main, shelf),
+    }
+}
