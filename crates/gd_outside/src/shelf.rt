@@ -8,8 +8,10 @@ ghost use Rattle.gd_outside.specs.declared.shelf.ShelfFault.TheVariants.{Failed,
 ghost use Rattle.gd_outside.specs.declared.shelf.FailedCall.{FailedCall};
 ghost use Rattle.gd_outside.specs.declared.shelf.FailedCall.TheVariants.{List as Listing, Read};
 
-use crate::path::Path;
+use crate::path::{Path, PathFault};
 use std::alloc::{AllocError, AllocFailed, Global};
+use std::io;
+use std::io::ErrorKind;
 use thiserror::Error;
 
 /// Why a call of a shelf gave nothing.
@@ -36,6 +38,24 @@ impl<T: Drop> From<AllocFailed<T>> for ShelfFault {
 
     fn from(_: AllocFailed<T>) -> ShelfFault {
         ShelfFault::NoMemory
+    }
+}
+
+impl From<PathFault> for ShelfFault {
+    fn from(fault: PathFault) -> ShelfFault {
+        match fault {
+            PathFault::Bad => ShelfFault::Failed,
+            PathFault::NoMemory => ShelfFault::NoMemory,
+        }
+    }
+}
+
+impl From<io::Error> for ShelfFault {
+    fn from(error: io::Error) -> ShelfFault {
+        match error.kind() {
+            ErrorKind::OutOfMemory => ShelfFault::NoMemory,
+            _ => ShelfFault::Failed,
+        }
     }
 }
 
