@@ -10,9 +10,11 @@ mod path;
 mod shelf;
 mod sink;
 mod std_sink;
+#[cfg(test)]
+mod tests;
 
 pub use folder_shelf::FolderShelf;
-pub use memory_shelf::MemoryShelf;
+pub use memory_shelf::{MemoryShelf, are_distinct};
 pub use memory_sink::MemorySink;
 pub use path::{Path, PathFault};
 pub use shelf::{FailedCall, Shelf, ShelfFault};
