@@ -1,5 +1,5 @@
 -- When the paths of files are distinct.
-use Rattle.std.proofs.Common.{◌≡◌, ◌<◌, ◌≤◌, ◌+◌, ◌-◌, ◌==◌, ◌||◌, ℕ, zero, suc, List, [], ◌∷◌, Bool, true, false, map, length, drop, get_or, refl, sym, ◌∙◌, ap, subst, arith, rules, bytes_eq, Vec, Option, Some, None, is_none, cond, add-one, drop-cons}
+use Rattle.std.proofs.Common.{◌≡◌, ◌<◌, ◌≤◌, ◌+◌, ◌==◌, ℕ, zero, suc, List, [], ◌∷◌, Bool, true, false, length, drop, get_or, refl, sym, ◌∙◌, ap, subst, arith, bytes_eq, Vec, Option, Some, is_none, cond, add-one, drop-cons}
 use Rattle.std.proofs.lemmas.Bool.{true≢false}
 use Rattle.std.proofs.lemmas.Bool.Decides.{nat_tests}
 use Rattle.std.specs.List.{AllByRecursion, IsDistinct}

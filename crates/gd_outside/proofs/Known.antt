@@ -1,8 +1,7 @@
 -- Bytes that a writer tells, as pieces reach it.
-use Rattle.std.proofs.Common.{◌≡◌, ◌+◌, ℕ, List, [], ◌++◌, take, drop, refl, sym, ◌∙◌, ap, arith, append_assoc, append-nil, Option, Some, None}
-use Rattle.std.specs.Io.KnownBytes.{Appends, Keeps, append_known}
+use Rattle.std.proofs.Common.{◌+◌, ℕ, List, ◌++◌, take, drop, sym, ◌∙◌, ap, append_assoc, Option, Some, None}
+use Rattle.std.specs.Io.KnownBytes.{Appends, Keeps}
 use Rattle.std.proofs.Math.Seq.{take-add}
-use Rattle.std.proofs.lemmas.Grind.{common_steps}
 
 pub appends-keeps : (a b c : Option (List ℕ)) (xs : List ℕ) → Appends a b xs → Keeps b c → Appends a c xs
 appends-keeps None b c xs first then = tt

@@ -43,8 +43,8 @@ pub fn list_files<R: Files + Alloc + Clone + Drop>(
     ensures { IfOk result (λ paths. IsRising paths.items) }
 {
     let mut walk = Walk::new(alloc)?;
-    // Each folder but the first is an entry, so this is time enough for all of them.
-    for _ in 0..=MOST_ENTRIES {
+    // Turns for the current folder, for a folder at each entry, and for the end.
+    for _ in 0..MOST_ENTRIES + 2 {
         match walk.folders.pop() {
             Some(folder) => walk.visit(system, &folder)?,
             None => return in_order(walk.files),
@@ -132,12 +132,21 @@ impl Walk {
     // The path of an entry.
     fn path_of(&self, folder: &Folder, name: &str) -> Result<Path, ShelfFault> {
         let Some(above) = &folder.path else {
-            return Ok(Path::new(self.alloc, name)?);
+            return to_path(self.alloc, name);
         };
         let mut text = String::from_str(self.alloc, above.text())?;
         text.push('/')?;
         text.push_str(name)?;
-        Ok(Path::new(self.alloc, text.as_str())?)
+        to_path(self.alloc, text.as_str())
+    }
+}
+
+// The path with this text. It fails where the text is too long.
+fn to_path(alloc: Global, text: &str) -> Result<Path, ShelfFault> {
+    match Path::new(alloc, text) {
+        Ok(path) => Ok(path),
+        Err(PathFault::Bad) => Err(ShelfFault::Failed),
+        Err(PathFault::NoMemory) => Err(ShelfFault::NoMemory),
     }
 }
 

@@ -8,7 +8,7 @@ ghost use Rattle.gd_outside.specs.declared.shelf.ShelfFault.TheVariants.{Failed,
 ghost use Rattle.gd_outside.specs.declared.shelf.FailedCall.{FailedCall};
 ghost use Rattle.gd_outside.specs.declared.shelf.FailedCall.TheVariants.{List as Listing, Read};
 
-use crate::path::{Path, PathFault};
+use crate::path::Path;
 use std::alloc::{AllocError, AllocFailed, Global};
 use std::io;
 use std::io::ErrorKind;
@@ -38,15 +38,6 @@ impl<T: Drop> From<AllocFailed<T>> for ShelfFault {
 
     fn from(_: AllocFailed<T>) -> ShelfFault {
         ShelfFault::NoMemory
-    }
-}
-
-impl From<PathFault> for ShelfFault {
-    fn from(fault: PathFault) -> ShelfFault {
-        match fault {
-            PathFault::Bad => ShelfFault::Failed,
-            PathFault::NoMemory => ShelfFault::NoMemory,
-        }
     }
 }
 

@@ -55,6 +55,7 @@ fn a_sink_hands_on_each_byte_once(rt: HostRuntime) -> Result<(), Fail> {
             assert_eq!(rt; sink.put(b"more".as_slice()), Err(SinkFault::Failed));
             assert_eq!(rt; sink.put(b"".as_slice()), Ok(()));
         }
+        drop(sink);
         let count = pipe.taken.len();
         assert_eq!(rt; count, all.len().min(room));
         assert!(rt; pipe.taken.as_slice() == &all[..count]);
