@@ -1,2 +1,4 @@
+pub mod Distinct
+pub mod Known
 pub mod Places
 pub mod Rising

@@ -1,7 +1,9 @@
 pub mod Cause
 pub mod Files
+pub mod FolderShelf
 pub mod MemoryShelf
 pub mod MemorySink
 pub mod Path
 pub mod Shelf
 pub mod Sink
+pub mod StdSink

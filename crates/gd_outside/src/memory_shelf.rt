@@ -65,6 +65,22 @@ impl MemoryShelf {
     }
 }
 
+/// Whether no two of these files have the same path, as a `MemoryShelf` needs.
+pub fn are_distinct(files: &[(Path, Vec<u8>)]) -> bool
+    ensures { IsTrue result ↔ AreDistinct (files_of files.now) }
+{
+    let mut from = files.len();
+    while from > 0 {
+        let path = &files[from - 1].0;
+        let later = &files[from..];
+        if place_in(later, path) < later.len() {
+            return false;
+        }
+        from -= 1;
+    }
+    true
+}
+
 impl Shelf for MemoryShelf {
     ghost files = { λ shelf. Some shelf.files };
 

@@ -10,6 +10,8 @@ ghost use Rattle.gd_outside.specs.declared.shelf.FailedCall.TheVariants.{List as
 
 use crate::path::Path;
 use std::alloc::{AllocError, AllocFailed, Global};
+use std::io;
+use std::io::ErrorKind;
 use thiserror::Error;
 
 /// Why a call of a shelf gave nothing.
@@ -36,6 +38,15 @@ impl<T: Drop> From<AllocFailed<T>> for ShelfFault {
 
     fn from(_: AllocFailed<T>) -> ShelfFault {
         ShelfFault::NoMemory
+    }
+}
+
+impl From<io::Error> for ShelfFault {
+    fn from(error: io::Error) -> ShelfFault {
+        match error.kind() {
+            ErrorKind::OutOfMemory => ShelfFault::NoMemory,
+            _ => ShelfFault::Failed,
+        }
     }
 }
 
