@@ -1,4 +1,4 @@
-//! The program `gd`.
+//! The program `gd`: checks and runs projects of Godot scripts (docs/command-line.md).
 #![tactic(auto)]
 
 mod answer;
@@ -6,7 +6,47 @@ mod print;
 mod run;
 mod source;
 mod status;
+#[cfg(test)]
+mod tests;
 mod top;
 mod words;
 
-fn main() {}
+use gd_outside::{FolderShelf, StdSink};
+use status::Status;
+use std::alloc::{AllocError, Global};
+use std::env::Env;
+use std::process::ExitCode;
+
+/// Runs the words of the command line over the current folder and standard output.
+fn main(rt: HostRuntime) -> ExitCode {
+    let alloc = rt.alloc();
+    let words = match words_after_name(&rt, alloc) {
+        Ok(words) => words,
+        Err(_) => return ExitCode::from(Status::NoMemory as u8),
+    };
+    let mut out = StdSink::new(alloc, rt.stdout());
+    let mut shelf = FolderShelf::new(rt);
+    let status = top::gd(alloc, &words, &mut shelf, &mut out);
+    let status = match out.flush() {
+        Ok(()) => status,
+        Err(_) => Status::WriteFault,
+    };
+    ExitCode::from(status as u8)
+}
+
+/// The words after the program's name; one empty word where they are not all UTF-8, which is no command.
+fn words_after_name(
+    rt: &(impl Env + AllocGlobal),
+    alloc: Global,
+) -> Result<Vec<String>, AllocError> {
+    let mut words = Vec::new(alloc);
+    match std::env::args(rt) {
+        Ok(args) => {
+            for word in args.skip(1) {
+                words.push(word)?;
+            }
+        }
+        Err(_) => words.push(String::new(alloc))?,
+    }
+    Ok(words)
+}

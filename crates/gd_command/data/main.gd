@@ -1,0 +1,2 @@
+func test():
+	print(42)
