@@ -1,14 +1,13 @@
 -- What a call leaves in its sink, from the answer that it decided on.
-use Rattle.std.proofs.Common.{◌≡◌, ◌≢◌, ℕ, List, [], ◌∷◌, ◌++◌, take, codes, Option, Some, None, Result, Ok, Err, IfSome, IfOk, refl, sym, ap, subst, ◌∙◌}
+use Rattle.std.proofs.Common.{◌≡◌, ◌≢◌, ℕ, List, [], take, Option, Some, None, Result, Ok, Err, IfSome, IfOk, sym, ap, subst}
 use Rattle.std.proofs.lemmas.List.{append-nil}
 use Rattle.gd_outside.specs.Files.{File}
 use Rattle.gd_outside.specs.Sink.{Appends, AppendsPrefix}
 use Rattle.gd_outside.specs.declared.shelf.FailedCall.{FailedCall}
 use Rattle.gd_command.specs.Words.{Means}
-use Rattle.gd_command.specs.Output.{Output, CommandOutput, RunOutput, NoCommand, usage, command, usage_line}
+use Rattle.gd_command.specs.Output.{Output, RunOutput, NoCommand, usage, command, usage_line}
 use Rattle.gd_command.specs.Answer.{IsAnswer, IsFaultOf, answer_text, answer_status}
-use Rattle.gd_command.specs.Call.{NamesFault, list_failed, read_failed, IsBegun, nothing, output_begun, fault_begun, Writes, Adds}
-use Rattle.gd_command.specs.declared.words.Command.{Command}
+use Rattle.gd_command.specs.Call.{list_failed, read_failed, IsBegun, nothing, output_begun, fault_begun, Writes, Adds}
 use Rattle.gd_command.specs.declared.words.Command.TheVariants.{Run}
 use Rattle.gd_command.specs.declared.answer.Answer.{Answer}
 use Rattle.gd_command.specs.declared.answer.Answer.TheVariants.{Usage, ListFault, ReadFault, NotBuilt, Ran}

@@ -1,5 +1,5 @@
 -- The answers that a call decides on before it writes.
-use Rattle.std.specs.Prelude.{◌≡◌, ◌≢◌, ℕ, List, [], ◌∷◌, ◌++◌, codes, decimal, Contains}
+use Rattle.std.specs.Prelude.{◌≡◌, ℕ, List, [], ◌∷◌, ◌++◌, codes, decimal, Contains}
 use Rattle.std.specs.List.{flat_map}
 use Rattle.gd_outside.specs.Files.{File, place_of, paths_of}
 use Rattle.gd_outside.specs.declared.shelf.FailedCall.{FailedCall}

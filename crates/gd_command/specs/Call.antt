@@ -1,5 +1,5 @@
 -- What a call of the program leaves in its sink.
-use Rattle.std.specs.Prelude.{◌≡◌, ◌⊎◌, ℕ, List, [], ◌∷◌, ◌++◌, take, codes, Option, Some, IfSome, Contains}
+use Rattle.std.specs.Prelude.{◌≡◌, ℕ, List, [], ◌∷◌, ◌++◌, take, codes, Option, Some, IfSome, Contains}
 use Rattle.gd_outside.specs.Files.{File, place_of, paths_of}
 use Rattle.gd_outside.specs.declared.shelf.FailedCall.{FailedCall}
 use Rattle.gd_outside.specs.declared.shelf.FailedCall.TheVariants.{List as Listing, Read}

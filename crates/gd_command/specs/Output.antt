@@ -1,5 +1,5 @@
 -- What a call of the program writes where nothing fails, and the status that it then answers.
-use Rattle.std.specs.Prelude.{◌≡◌, ◌⊎◌, ℕ, List, [], ◌∷◌, ◌++◌, codes, filter, nat_eq, encode_utf8_all}
+use Rattle.std.specs.Prelude.{◌≡◌, ℕ, List, [], ◌∷◌, ◌++◌, codes, filter, nat_eq, encode_utf8_all}
 use Rattle.std.specs.List.{flat_map, ends_with}
 use Rattle.gd_outside.specs.Files.{File}
 use Rattle.gd_model.specs.declared.event.Event.{Event}

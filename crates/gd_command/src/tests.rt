@@ -1,7 +1,7 @@
 //! Whole calls over files and a sink in memory.
 use crate::status::Status;
 use crate::top::gd;
-use gd_outside::{MemoryShelf, MemorySink, Path};
+use gd_outside::{MemoryShelf, MemorySink, Path, are_distinct};
 use std::alloc::Global;
 use std::test::Fail;
 
@@ -34,6 +34,9 @@ fn outcome(alloc: Global, call: Call) -> Result<(Status, String), Fail> {
     let mut files = Vec::new(alloc);
     if let Some((path, text)) = call.file {
         files.push((Path::new(alloc, path)?, text.as_bytes().to_vec(alloc)?))?;
+    }
+    if !are_distinct(&files) {
+        return Err("two files with one path")?;
     }
     let mut words = Vec::new(alloc);
     for word in call.words.split_whitespace() {

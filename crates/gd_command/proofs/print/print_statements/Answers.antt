@@ -1,5 +1,4 @@
-use Rattle.std.proofs.Common.{sym, subst, List, ℕ, arith}
-use Rattle.std.specs.List.{flat_map}
+use Rattle.std.proofs.Common.{sym, subst, arith}
 use Rattle.gd_outside.specs.Sink.{AppendsPrefix}
 use Rattle.gd_command.specs.Answer.{printed_of}
 use Rattle.gd_command.proofs.PutsLemmas.{Puts-err, AppendsPrefix-then, AppendsPrefix-more, flat_map_round}
