@@ -1,10 +1,19 @@
 use crate::{FolderShelf, Path, Shelf, ShelfFault};
 use std::fs;
 use std::os::unix::fs::symlink;
+use std::rt::Env;
 use std::test::Fail;
 
-// Makes the folder of a small project, with files, folders and links that are none of it.
+// The test works in this folder, and removes it.
+const FOLDER: &str = "folder_shelf_test";
+
+// Makes the folder of a small project, with files, folders and links that are none of it, and goes into it.
 fn make_project(rt: HostRuntime) -> Result<(), Fail> {
+    if fs::exists(&rt, FOLDER)? {
+        fs::remove_dir_all(&rt, FOLDER)?;
+    }
+    fs::create_dir(&rt, FOLDER)?;
+    rt.set_current_dir(FOLDER)?;
     fs::create_dir_all(&rt, "a/.hidden")?;
     for path in [
         "b.gd",
@@ -55,5 +64,7 @@ fn a_folder_gives_the_files_of_a_project(rt: HostRuntime) -> Result<(), Fail> {
     assert!(rt; shelf.list(alloc).is_ok());
     fs::create_dir_all(&rt, "d/".repeat(alloc, 33)?.as_str())?;
     assert_eq!(rt; shelf.list(alloc).err(), Some(ShelfFault::Failed));
+    rt.set_current_dir("..")?;
+    fs::remove_dir_all(&rt, FOLDER)?;
     Ok(())
 }
