@@ -1,0 +1,3 @@
+pub mod GlyphLemmas
+pub mod CursorLemmas
+pub mod FollowsLemmas
