@@ -8,12 +8,12 @@ use Rattle.gd_lexer.specs.declared.glyph.Glyph.TheVariants.{Char, Bad}
 use Rattle.gd_lexer.specs.Glyphs.{decoded, glyph_or, first_glyph, width, glyphs}
 use Rattle.gd_lexer.specs.Cursor.{Spot, advanced, advanced_over, after_glyph, after_char}
 use Rattle.gd_lexer.specs.Follows.{Follows, IsAtMost}
-use Rattle.gd_lexer.proofs.GlyphLemmas.{glyphs_cons}
+use Rattle.gd_lexer.proofs.GlyphLemmas.{glyphs_cons, width_positive}
 
-IsAtMost-refl : (p : Pos) → IsAtMost p p
+pub IsAtMost-refl : (p : Pos) → IsAtMost p p
 IsAtMost-refl p = inr (refl, omega arith)
 
-IsAtMost-trans : (p q r : Pos) → IsAtMost p q → IsAtMost q r → IsAtMost p r
+pub IsAtMost-trans : (p q r : Pos) → IsAtMost p q → IsAtMost q r → IsAtMost p r
 IsAtMost-trans p q r (inl a) (inl b) = inl (omega arith)
 IsAtMost-trans p q r (inl a) (inr b) = inl (omega arith)
 IsAtMost-trans p q r (inr a) (inl b) = inl (omega arith)
@@ -36,10 +36,10 @@ file_glyph (Char c) p = same_file (c == 10) p
 file_glyph (Bad b) p = refl
 
 pub Follows-refl : (s : Spot) → Follows s s
-Follows-refl s = record { fewer = omega arith; whole = refl; later = IsAtMost-refl s.pos; file = refl }
+Follows-refl s = record { fewer = omega arith; wide = omega arith; whole = refl; later = IsAtMost-refl s.pos; file = refl }
 
 pub Follows-trans : (a b c : Spot) → Follows a b → Follows b c → Follows a c
-Follows-trans a b c h k = record { fewer = omega arith; whole = k.whole ∙ h.whole; later = IsAtMost-trans a.pos b.pos c.pos h.later k.later; file = k.file ∙ h.file }
+Follows-trans a b c h k = record { fewer = omega arith; wide = omega arith; whole = k.whole ∙ h.whole; later = IsAtMost-trans a.pos b.pos c.pos h.later k.later; file = k.file ∙ h.file }
 
 pub advanced_fewer : (s : Spot) → length (advanced s).glyphs ≡ length s.glyphs - 1
 unfolding advanced
@@ -64,7 +64,11 @@ Follows-advance s bs rest g w o p q shown first wide fits cut place =
     let longer : length (glyphs bs) ≡ length (glyphs rest) + 1 = omega (arith, ap length (head_of bs g first), ap (λ t. length (glyphs t)) tail) in
     subst P shown (record {
       fewer = omega arith;
+      wide = omega (arith, width_positive g);
       whole = omega (arith, ap length cut, length-drop w bs);
       later = rw place (later_glyph g p);
       file = rw place (file_glyph g p);
     })
+
+pub IsAtMost-same : (p q : Pos) → p ≡ q → IsAtMost p q
+IsAtMost-same p q e = rw e (IsAtMost-refl q)

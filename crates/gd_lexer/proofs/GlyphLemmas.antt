@@ -59,7 +59,7 @@ decoded_within b bs =
     (λ _. chosen (nat_lt b 0xF0) _ _ b (length bs + 1) (λ h. let small : b < 0xF0 = grind (arith, nat_tests) in three_within b b bs small)
     (λ _. chosen (nat_lt b 0xF5) _ _ b (length bs + 1) (λ _. four_within b b bs) (λ _. omega arith)))))
 
-width_positive : (g : Glyph) → 1 ≤ width g
+pub width_positive : (g : Glyph) → 1 ≤ width g
 width_positive (Char c) = grind (arith, nat_tests)
 width_positive (Bad b) = omega arith
 

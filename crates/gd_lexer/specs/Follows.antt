@@ -9,6 +9,8 @@ IsAtMost a b = (a.line < b.line) ⊎ ((a.line ≡ b.line) × (a.column ≤ b.col
 
 pub record Follows (old new : Spot) : Type 0 where
   pub fewer : length new.glyphs ≤ length old.glyphs
+  -- a glyph has at least a byte
+  pub wide : length old.glyphs + old.offset ≤ length new.glyphs + new.offset
   pub whole : new.offset + new.left ≡ old.offset + old.left
   pub later : IsAtMost old.pos new.pos
   pub file : new.pos.file ≡ old.pos.file

@@ -1,8 +1,12 @@
 //! Open brackets, and the tokens of the items between separators.
+ghost use Rattle.std.specs.Prelude.{◌≡◌, ◌<◌, ◌≤◌, ◌+◌, ◌++◌, [], ◌∷◌, OnOk, IfErr, length};
+
+use crate::stop::Stop;
+use crate::stopped::stop_at;
 use gd_model::Rule;
-use gd_syntax::{Mark, TokenKind};
+use gd_syntax::{Mark, Pos, TokenKind};
 use sqlite_items::Items;
-use std::alloc::{AllocError, Global};
+use std::alloc::Global;
 
 /// The most brackets that are open at once.
 pub const MAX_BRACKETS: usize = 32;
@@ -61,20 +65,9 @@ fn role_of(kind: &TokenKind) -> Role {
     }
 }
 
-/// Why a token is refused: the rule that it breaks, or want of memory.
-#[derive(Clone, Copy, Debug, PartialEq, Eq, Drop)]
-pub enum Refused {
-    Rule(Rule),
-    NoMemory,
-}
-
-impl From<AllocError> for Refused {
-    fn from(_: AllocError) -> Refused {
-        Refused::NoMemory
-    }
-}
-
 impl Brackets {
+    ghost use Rattle.gd_lexer.specs.Stops.{IsFaultAt};
+
     pub fn new(alloc: Global) -> Brackets {
         Brackets {
             item: 0,
@@ -93,43 +86,60 @@ impl Brackets {
     }
 
     /// Counts a token of the running item.
-    fn count(&mut self) -> Result<(), Refused> {
+    fn count(&mut self, pos: Pos) -> Result<(), Stop>
+        requires line { 1 ≤ pos.line }
+        requires column { 1 ≤ pos.column }
+        ensures item { OnOk result ((self.old.item < 100) × (self.new.item ≡ self.old.item + 1)) }
+        ensures around { self.new.around ≡ self.old.around }
+        ensures full { IfErr result (IsFaultAt pos Rule.ItemTooLong (100 ≤ self.old.item)) }
+    {
         if self.item >= MAX_ITEM {
-            return Err(Refused::Rule(Rule::ItemTooLong));
+            return Err(stop_at(pos, Rule::ItemTooLong));
         }
         self.item += 1;
         Ok(())
     }
 
     /// Counts an opening bracket, and begins the item behind it.
-    fn open(&mut self) -> Result<(), Refused> {
+    fn open(&mut self, pos: Pos) -> Result<(), Stop>
+        requires line { 1 ≤ pos.line }
+        requires column { 1 ≤ pos.column }
+        ensures room { OnOk result ((length self.old.around < 32) × (self.old.item < 100)) }
+        ensures around { OnOk result ((self.new.around ≡ self.old.around ++ (self.old.item + 1) ∷ []) × (self.new.item ≡ 0)) }
+    {
         if self.around.len() >= MAX_BRACKETS {
-            return Err(Refused::Rule(Rule::BracketsTooDeep));
+            return Err(stop_at(pos, Rule::BracketsTooDeep));
         }
-        self.count()?;
+        self.count(pos)?;
         self.around.push(self.item)?;
         self.item = 0;
         Ok(())
     }
 
     /// Goes back to the item around the last open bracket, if one is open, and counts the closing bracket.
-    fn close(&mut self) -> Result<(), Refused> {
+    fn close(&mut self, pos: Pos) -> Result<(), Stop>
+        requires line { 1 ≤ pos.line }
+        requires column { 1 ≤ pos.column }
+    {
         if let Some(item) = self.around.pop() {
             self.item = item;
         }
-        self.count()
+        self.count(pos)
     }
 
-    /// Takes a token of a logical line.
-    pub fn take(&mut self, kind: &TokenKind) -> Result<(), Refused> {
+    /// Takes the token at `pos`.
+    pub fn take(&mut self, kind: &TokenKind, pos: Pos) -> Result<(), Stop>
+        requires line { 1 ≤ pos.line }
+        requires column { 1 ≤ pos.column }
+    {
         match role_of(kind) {
-            Role::Part => self.count(),
+            Role::Part => self.count(pos),
             Role::Separator => {
                 self.end_item();
                 Ok(())
             }
-            Role::Opening => self.open(),
-            Role::Closing => self.close(),
+            Role::Opening => self.open(pos),
+            Role::Closing => self.close(pos),
         }
     }
 }

@@ -1,16 +1,19 @@
 //! The escapes of a string.
-ghost use Rattle.std.specs.Prelude.{◌≡◌, ◌<◌, ◌≤◌, ◌-◌, IfSome, IfOk, OnOk, length};
+ghost use Rattle.std.specs.Prelude.{◌≡◌, ◌<◌, ◌≤◌, ◌+◌, ◌-◌, ◌*◌, IfSome, IfOk, OnOk, length};
+ghost use Rattle.gd_lexer.specs.Escape as spec;
 ghost use Rattle.gd_lexer.specs.Follows.{Follows};
 
 use crate::cursor::Cursor;
-use crate::fault::LexFault;
 use crate::glyph::Glyph;
 use crate::quoted::Body;
+use crate::stop::fault_at;
 use gd_model::Rule;
 use no_memory::NoMemory;
 
 /// The character that a backslash with this character stands for.
-fn simple(c: char) -> Option<char> {
+fn simple(c: char) -> Option<char>
+    ensures { result ≡ spec.simple c }
+{
     match c {
         'n' => Some('\n'),
         't' => Some('\t'),
@@ -70,7 +73,9 @@ fn hex_six(cursor: &mut Cursor) -> Option<u32>
 /// Goes over the low surrogate that has to follow a high one, for the character that the two make.
 fn paired(cursor: &mut Cursor, high: u32) -> Option<char>
     requires { (0xD800 ≤ high) × (high < 0xDC00) }
-    ensures { Follows cursor.old cursor.new }
+    ensures follows { Follows cursor.old cursor.new }
+    // The low surrogate has the low ten bits, the high one the bits above.
+    ensures pair { IfSome result (λ c. (0x10000 + (high - 0xD800) * 0x400 ≤ c) × (c < 0x10000 + (high - 0xD800) * 0x400 + 0x400)) }
 {
     if !(cursor.sees('\\') && cursor.sees_second('u')) {
         return None;
@@ -148,7 +153,7 @@ pub fn escape(cursor: &mut Cursor, body: &mut Body) -> Result<(), NoMemory>
     };
     match found {
         Some(c) => body.push(c)?,
-        None => body.refuse(LexFault::Fault(pos, Rule::BadEscape)),
+        None => body.refuse(fault_at(pos, Rule::BadEscape)),
     }
     Ok(())
 }

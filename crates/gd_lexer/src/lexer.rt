@@ -1,17 +1,21 @@
 //! The steps over a file.
-ghost use Rattle.std.specs.Prelude.{◌≡◌, ◌<◌, ◌≤◌, ◌-◌, OnOk, length};
+ghost use Rattle.std.specs.Prelude.{◌≡◌, ◌<◌, ◌≤◌, ◌+◌, ◌-◌, ◌*◌, OnOk, IfOk, IsTrue, length};
+ghost use Rattle.gd_lexer.specs.Lexical.{is_lexical};
+ghost use Rattle.gd_lexer.specs.Found.{IsNotEnd, AreWhole};
+ghost use Rattle.gd_lexer.specs.Sound.{IsSound, IsPlaced, load};
 ghost use Rattle.gd_lexer.specs.Follows.{Follows};
 
-use crate::brackets::{Brackets, Refused};
+use crate::brackets::Brackets;
 use crate::cursor::Cursor;
-use crate::fault::LexFault;
-use crate::found::{Found, Span};
+use crate::found::{Found, Span, Whole};
 use crate::glyph::Glyph;
 use crate::lines::{Blank, Lines};
 use crate::mark::mark;
 use crate::name::{begins_name, read_name};
 use crate::number::number;
 use crate::quoted::{Body, is_quote, quoted};
+use crate::stop::{Fault, Stop, fault_at};
+use crate::stopped::stop_at;
 use crate::word::{Word, word_of};
 use gd_model::Rule;
 use gd_syntax::{Mark, Pos, Text, TokenKind};
@@ -42,7 +46,7 @@ pub struct Lexer<'a> {
 }
 
 /// A token's kind, and the first fault inside it.
-type Scanned = (TokenKind, Option<LexFault>);
+type Scanned = (TokenKind, Option<Fault>);
 
 /// How a token begins with this character at the cursor, or `None` where none does.
 fn start_of(c: char, cursor: &Cursor) -> Option<Start> {
@@ -73,29 +77,39 @@ impl<'a> Lexer<'a> {
     /// At the start of a file.
     pub fn new(alloc: Global, file: u32, bytes: &'a [u8]) -> Lexer<'a>
         requires { length bytes.now ≤ 1_048_576 }
+        ensures sound { IsSound result }
+        ensures file { result.found.last.file ≡ file }
+        ensures size { result.cursor.offset + result.cursor.left ≡ length bytes.now }
     {
+        let cursor = Cursor::new(file, bytes);
+        let found = Found::new(alloc, cursor.pos());
         Lexer {
             alloc,
-            cursor: Cursor::new(file, bytes),
+            cursor,
             lines: Lines::new(alloc),
             brackets: Brackets::new(alloc),
-            found: Found::new(alloc),
+            found,
             body: Body::new(alloc),
         }
     }
 
     /// Reads the file to its end.
-    pub fn run(mut self) -> Result<Found, LexFault> {
+    pub fn run(mut self) -> Result<Whole, Stop>
+        requires { IsSound self }
+        ensures whole { IfOk result (λ w. AreWhole self.entry.found.last.file w.tokens.items) }
+        ensures count { IfOk result (λ w. length w.tokens.items ≤ 4 * (self.entry.cursor.offset + self.entry.cursor.left) + 1) }
+    {
         while let Some(glyph) = self.cursor.peek() {
             self.step(glyph)?;
         }
-        self.finish()?;
-        let Lexer { found, .. } = self;
-        Ok(found)
+        self.finish()
     }
 
     /// Goes over the next glyph, and over the token or comment that begins with it.
-    fn step(&mut self, glyph: Glyph) -> Result<(), LexFault>
+    fn step(&mut self, glyph: Glyph) -> Result<(), Stop>
+        requires sound { IsSound self.old }
+        requires more { 0 < length self.old.cursor.glyphs }
+        ensures sound { OnOk result (IsSound self.new) }
         ensures follows { Follows self.old.cursor self.new.cursor }
         ensures fewer { OnOk result (length self.new.cursor.glyphs ≤ length self.old.cursor.glyphs - 1) }
     {
@@ -115,6 +129,8 @@ impl<'a> Lexer<'a> {
     }
 
     fn blank(&mut self, blank: Blank)
+        requires sound { IsSound self.old }
+        ensures sound { IsSound self.new }
         ensures follows { Follows self.old.cursor self.new.cursor }
         ensures fewer { length self.new.cursor.glyphs ≡ length self.old.cursor.glyphs - 1 }
     {
@@ -123,17 +139,22 @@ impl<'a> Lexer<'a> {
     }
 
     /// Goes over a glyph that begins no token.
-    fn stray(&mut self, rule: Rule) -> Result<(), LexFault>
+    fn stray(&mut self, rule: Rule) -> Result<(), Stop>
+        requires lexical { IsTrue (is_lexical rule) }
+        requires sound { IsSound self.old }
+        ensures sound { OnOk result (IsSound self.new) }
         ensures follows { Follows self.old.cursor self.new.cursor }
         ensures fewer { OnOk result (length self.new.cursor.glyphs ≤ length self.old.cursor.glyphs - 1) }
     {
-        self.lines.stray(LexFault::Fault(self.cursor.pos(), rule))?;
+        self.lines.stray(fault_at(self.cursor.pos(), rule))?;
         self.cursor.advance();
         Ok(())
     }
 
     /// Goes over a backslash, which joins two lines or is a fault.
-    fn join(&mut self) -> Result<(), LexFault>
+    fn join(&mut self) -> Result<(), Stop>
+        requires sound { IsSound self.old }
+        ensures sound { OnOk result (IsSound self.new) }
         ensures follows { Follows self.old.cursor self.new.cursor }
         ensures fewer { OnOk result (length self.new.cursor.glyphs ≤ length self.old.cursor.glyphs - 1) }
     {
@@ -149,7 +170,9 @@ impl<'a> Lexer<'a> {
     }
 
     /// Goes over a comment with its `#`, up to the line's end.
-    fn comment(&mut self) -> Result<(), LexFault>
+    fn comment(&mut self) -> Result<(), Stop>
+        requires sound { IsSound self.old }
+        ensures sound { OnOk result (IsSound self.new) }
         ensures follows { Follows self.old.cursor self.new.cursor }
         ensures fewer { OnOk result (length self.new.cursor.glyphs ≤ length self.old.cursor.glyphs - 1) }
     {
@@ -158,28 +181,32 @@ impl<'a> Lexer<'a> {
         self.cursor.advance();
         self.comment_text()?;
         let end = self.cursor.offset();
-        self.found.comments.push(Span { start, end })?;
+        self.found.comment(Span { start, end })?;
         Ok(())
     }
 
-    fn comment_text(&mut self) -> Result<(), LexFault>
-        ensures { Follows self.old.cursor self.new.cursor }
+    fn comment_text(&mut self) -> Result<(), Stop>
+        ensures follows { Follows self.old.cursor self.new.cursor }
+        ensures found { self.new.found ≡ self.old.found }
+        ensures lines { self.new.lines ≡ self.old.lines }
     {
         while let Some(glyph) = self.cursor.peek() {
             match glyph {
                 Glyph::Char('\n') => break,
                 Glyph::Char('\r') if !self.cursor.sees_second('\n') => {
-                    return Err(LexFault::Fault(self.cursor.pos(), Rule::StrayCharacter));
+                    return Err(stop_at(self.cursor.pos(), Rule::StrayCharacter));
                 }
                 Glyph::Char(_) => self.cursor.advance(),
-                Glyph::Bad(_) => return Err(LexFault::Fault(self.cursor.pos(), Rule::NotUtf8)),
+                Glyph::Bad(_) => return Err(stop_at(self.cursor.pos(), Rule::NotUtf8)),
             }
         }
         Ok(())
     }
 
     /// Goes over a line feed. Inside brackets it is a blank.
-    fn line_end(&mut self) -> Result<(), LexFault>
+    fn line_end(&mut self) -> Result<(), Stop>
+        requires sound { IsSound self.old }
+        ensures sound { OnOk result (IsSound self.new) }
         ensures follows { Follows self.old.cursor self.new.cursor }
         ensures fewer { OnOk result (length self.new.cursor.glyphs ≤ length self.old.cursor.glyphs - 1) }
     {
@@ -198,7 +225,10 @@ impl<'a> Lexer<'a> {
         self.lines.end()
     }
 
-    fn other(&mut self, c: char) -> Result<(), LexFault>
+    fn other(&mut self, c: char) -> Result<(), Stop>
+        requires sound { IsSound self.old }
+        requires more { 0 < length self.old.cursor.glyphs }
+        ensures sound { OnOk result (IsSound self.new) }
         ensures follows { Follows self.old.cursor self.new.cursor }
         ensures fewer { OnOk result (length self.new.cursor.glyphs ≤ length self.old.cursor.glyphs - 1) }
     {
@@ -209,7 +239,10 @@ impl<'a> Lexer<'a> {
     }
 
     /// Goes over a token. The faults at its place come by their rules, before those inside it.
-    fn token(&mut self, start: Start) -> Result<(), LexFault>
+    fn token(&mut self, start: Start) -> Result<(), Stop>
+        requires sound { IsSound self.old }
+        requires more { 0 < length self.old.cursor.glyphs }
+        ensures sound { OnOk result (IsSound self.new) }
         ensures follows { Follows self.old.cursor self.new.cursor }
         ensures fewer { OnOk result (length self.new.cursor.glyphs ≤ length self.old.cursor.glyphs - 1) }
     {
@@ -223,7 +256,7 @@ impl<'a> Lexer<'a> {
             self.found.push_empty(pos, TokenKind::Indent, at)?;
         }
         if let Some(fault) = inner {
-            return Err(fault);
+            return Err(Stop::Fault(fault));
         }
         let span = Span {
             start: at,
@@ -235,8 +268,11 @@ impl<'a> Lexer<'a> {
 
     /// Begins a logical line where the token at `pos` is its first, and closes the blocks that end before it.
     /// The answer is the level of a block that begins with it.
-    fn open_line(&mut self, pos: Pos, at: u32) -> Result<Option<u32>, LexFault>
-        ensures { self.new.cursor ≡ self.old.cursor }
+    fn open_line(&mut self, pos: Pos, at: u32) -> Result<Option<u32>, Stop>
+        requires { IsPlaced self.old pos }
+        ensures placed { OnOk result (IsPlaced self.new pos) }
+        ensures load { OnOk result (load self.new ≤ load self.old + 1) }
+        ensures cursor { self.new.cursor ≡ self.old.cursor }
     {
         if self.lines.is_open() {
             return Ok(None);
@@ -247,14 +283,17 @@ impl<'a> Lexer<'a> {
         }
         self.close_blocks(level, pos, at)?;
         if level != self.lines.level() {
-            return Err(LexFault::Fault(pos, Rule::UnmatchedDedent));
+            return Err(stop_at(pos, Rule::UnmatchedDedent));
         }
         Ok(None)
     }
 
     /// Closes the blocks above this level before the token at `pos`.
-    fn close_blocks(&mut self, level: u32, pos: Pos, at: u32) -> Result<(), LexFault>
-        ensures { self.new.cursor ≡ self.old.cursor }
+    fn close_blocks(&mut self, level: u32, pos: Pos, at: u32) -> Result<(), Stop>
+        requires { IsPlaced self.old pos }
+        ensures placed { OnOk result (IsPlaced self.new pos) }
+        ensures load { OnOk result (load self.new ≤ load self.old) }
+        ensures cursor { self.new.cursor ≡ self.old.cursor }
     {
         'above: while level < self.lines.level() {
             self.lines.close_block();
@@ -263,18 +302,23 @@ impl<'a> Lexer<'a> {
         Ok(())
     }
 
-    fn take(&mut self, kind: &TokenKind, pos: Pos) -> Result<(), LexFault>
-        ensures { self.new.cursor ≡ self.old.cursor }
+    fn take(&mut self, kind: &TokenKind, pos: Pos) -> Result<(), Stop>
+        requires line { 1 ≤ pos.line }
+        requires column { 1 ≤ pos.column }
+        ensures cursor { self.new.cursor ≡ self.old.cursor }
+        ensures found { self.new.found ≡ self.old.found }
+        ensures lines { self.new.lines ≡ self.old.lines }
     {
-        match self.brackets.take(kind) {
-            Ok(()) => Ok(()),
-            Err(Refused::Rule(rule)) => Err(LexFault::Fault(pos, rule)),
-            Err(Refused::NoMemory) => Err(LexFault::NoMemory),
-        }
+        self.brackets.take(kind, pos)
     }
 
     /// Goes over the token that begins so at `pos`.
-    fn scan(&mut self, start: Start, pos: Pos) -> Result<Scanned, LexFault>
+    fn scan(&mut self, start: Start, pos: Pos) -> Result<Scanned, Stop>
+        requires line { 1 ≤ pos.line }
+        requires column { 1 ≤ pos.column }
+        ensures found { self.new.found ≡ self.old.found }
+        ensures lines { self.new.lines ≡ self.old.lines }
+        ensures kind { IfOk result (λ r. IsNotEnd r.0) }
         ensures follows { Follows self.old.cursor self.new.cursor }
         ensures fewer { OnOk result (length self.new.cursor.glyphs ≤ length self.old.cursor.glyphs - 1) }
     {
@@ -283,18 +327,20 @@ impl<'a> Lexer<'a> {
             Start::Quoted => self.quoted(pos),
             Start::Number => match number(&mut self.cursor) {
                 Ok(value) => Ok((TokenKind::Number(value), None)),
-                Err(rule) => Err(LexFault::Fault(pos, rule)),
+                Err(rule) => Err(stop_at(pos, rule)),
             },
             Start::Mark(mark, count) => {
                 self.mark(count);
                 Ok((TokenKind::Mark(mark), None))
             }
-            Start::Float => Err(LexFault::Fault(pos, Rule::Float)),
+            Start::Float => Err(stop_at(pos, Rule::Float)),
         }
     }
 
     /// Goes over a mark of one to three characters.
     fn mark(&mut self, count: u8)
+        ensures found { self.new.found ≡ self.old.found }
+        ensures lines { self.new.lines ≡ self.old.lines }
         ensures follows { Follows self.old.cursor self.new.cursor }
         ensures fewer { length self.new.cursor.glyphs ≤ length self.old.cursor.glyphs - 1 }
     {
@@ -305,7 +351,12 @@ impl<'a> Lexer<'a> {
         }
     }
 
-    fn name(&mut self, c: char, pos: Pos) -> Result<Scanned, LexFault>
+    fn name(&mut self, c: char, pos: Pos) -> Result<Scanned, Stop>
+        requires line { 1 ≤ pos.line }
+        requires column { 1 ≤ pos.column }
+        ensures found { self.new.found ≡ self.old.found }
+        ensures lines { self.new.lines ≡ self.old.lines }
+        ensures kind { IfOk result (λ r. IsNotEnd r.0) }
         ensures follows { Follows self.old.cursor self.new.cursor }
         ensures fewer { OnOk result (length self.new.cursor.glyphs ≤ length self.old.cursor.glyphs - 1) }
     {
@@ -316,11 +367,16 @@ impl<'a> Lexer<'a> {
         match word_of(self.body.chars.as_slice()) {
             Word::Name => Ok((TokenKind::Word(self.text()?), None)),
             Word::Keyword(keyword) => Ok((TokenKind::Keyword(keyword), None)),
-            Word::Float => Err(LexFault::Fault(pos, Rule::Float)),
+            Word::Float => Err(stop_at(pos, Rule::Float)),
         }
     }
 
-    fn quoted(&mut self, pos: Pos) -> Result<Scanned, LexFault>
+    fn quoted(&mut self, pos: Pos) -> Result<Scanned, Stop>
+        requires line { 1 ≤ pos.line }
+        requires column { 1 ≤ pos.column }
+        ensures found { self.new.found ≡ self.old.found }
+        ensures lines { self.new.lines ≡ self.old.lines }
+        ensures kind { IfOk result (λ r. IsNotEnd r.0) }
         ensures follows { Follows self.old.cursor self.new.cursor }
         ensures fewer { OnOk result (length self.new.cursor.glyphs ≤ length self.old.cursor.glyphs - 1) }
     {
@@ -328,7 +384,7 @@ impl<'a> Lexer<'a> {
         let is_ended = quoted(&mut self.cursor, &mut self.body)?;
         let fault = self.body.fault;
         if !is_ended {
-            return Err(LexFault::Fault(pos, Rule::UnterminatedString));
+            return Err(stop_at(pos, Rule::UnterminatedString));
         }
         Ok((TokenKind::Quoted(self.text()?), fault))
     }
@@ -343,7 +399,11 @@ impl<'a> Lexer<'a> {
     }
 
     /// Ends the last line and the open blocks.
-    fn finish(&mut self) -> Result<(), LexFault> {
+    fn finish(mut self) -> Result<Whole, Stop>
+        requires { IsSound self }
+        ensures whole { IfOk result (λ w. AreWhole self.entry.cursor.pos.file w.tokens.items) }
+        ensures count { IfOk result (λ w. length w.tokens.items ≤ load self.entry + 1) }
+    {
         let pos = self.cursor.pos();
         let at = self.cursor.offset();
         if self.lines.is_open() {
@@ -351,7 +411,7 @@ impl<'a> Lexer<'a> {
         }
         self.lines.end()?;
         self.close_blocks(0, pos, at)?;
-        self.found.push_empty(pos, TokenKind::End, at)?;
-        Ok(())
+        let Lexer { found, .. } = self;
+        Ok(found.finish(pos, at)?)
     }
 }

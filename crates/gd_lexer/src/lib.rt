@@ -16,6 +16,8 @@ mod name;
 mod number;
 mod quoted;
 mod spelled;
+mod stop;
+mod stopped;
 #[cfg(test)]
 mod tests;
 mod word;

@@ -1,4 +1,7 @@
 //! Operators and punctuation: the longest mark that begins with a character.
+ghost use Rattle.std.specs.Prelude.{◌≡◌};
+ghost use Rattle.gd_lexer.specs.Mark as spec;
+
 use crate::cursor::Cursor;
 use gd_syntax::Mark;
 
@@ -20,7 +23,9 @@ pub fn mark(c: char, cursor: &Cursor) -> Option<Spelled> {
 }
 
 /// A mark that may be followed by `=`.
-fn with_equal(cursor: &Cursor, plain: Mark, equal: Mark) -> Spelled {
+fn with_equal(cursor: &Cursor, plain: Mark, equal: Mark) -> Spelled
+    ensures { result ≡ spec.with_equal cursor.now.glyphs plain equal }
+{
     if cursor.sees_second('=') {
         (equal, 2)
     } else {
@@ -28,7 +33,9 @@ fn with_equal(cursor: &Cursor, plain: Mark, equal: Mark) -> Spelled {
     }
 }
 
-fn arithmetic(c: char, cursor: &Cursor) -> Spelled {
+fn arithmetic(c: char, cursor: &Cursor) -> Spelled
+    ensures { result ≡ spec.arithmetic c cursor.now.glyphs }
+{
     match c {
         '+' => with_equal(cursor, Mark::Plus, Mark::PlusEqual),
         '-' if cursor.sees_second('>') => (Mark::Arrow, 2),
@@ -38,7 +45,9 @@ fn arithmetic(c: char, cursor: &Cursor) -> Spelled {
     }
 }
 
-fn star(cursor: &Cursor) -> Spelled {
+fn star(cursor: &Cursor) -> Spelled
+    ensures { result ≡ spec.star cursor.now.glyphs }
+{
     if !cursor.sees_second('*') {
         return with_equal(cursor, Mark::Star, Mark::StarEqual);
     }
@@ -49,7 +58,9 @@ fn star(cursor: &Cursor) -> Spelled {
     }
 }
 
-fn bits(c: char, cursor: &Cursor) -> Spelled {
+fn bits(c: char, cursor: &Cursor) -> Spelled
+    ensures { result ≡ spec.bits c cursor.now.glyphs }
+{
     match c {
         '&' if cursor.sees_second('&') => (Mark::AndAnd, 2),
         '&' => with_equal(cursor, Mark::Ampersand, Mark::AmpersandEqual),
@@ -59,7 +70,9 @@ fn bits(c: char, cursor: &Cursor) -> Spelled {
     }
 }
 
-fn angle(c: char, cursor: &Cursor) -> Spelled {
+fn angle(c: char, cursor: &Cursor) -> Spelled
+    ensures { result ≡ spec.angle c cursor.now.glyphs }
+{
     if !cursor.sees_second(c) {
         return if c == '<' {
             with_equal(cursor, Mark::Less, Mark::LessEqual)
@@ -67,11 +80,17 @@ fn angle(c: char, cursor: &Cursor) -> Spelled {
             with_equal(cursor, Mark::Greater, Mark::GreaterEqual)
         };
     }
-    match (c, cursor.sees_third('=')) {
-        ('<', false) => (Mark::ShiftLeft, 2),
-        ('<', true) => (Mark::ShiftLeftEqual, 3),
-        (_, false) => (Mark::ShiftRight, 2),
-        (_, true) => (Mark::ShiftRightEqual, 3),
+    let is_assignment = cursor.sees_third('=');
+    if c == '<' {
+        if is_assignment {
+            (Mark::ShiftLeftEqual, 3)
+        } else {
+            (Mark::ShiftLeft, 2)
+        }
+    } else if is_assignment {
+        (Mark::ShiftRightEqual, 3)
+    } else {
+        (Mark::ShiftRight, 2)
     }
 }
 

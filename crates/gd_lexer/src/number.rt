@@ -1,6 +1,7 @@
 //! Whole numbers, and what is wrong with others.
-ghost use Rattle.std.specs.Prelude.{◌≡◌, ◌<◌, ◌≤◌, ◌-◌, ◌^◌, IfSome, length};
-ghost use Rattle.gd_lexer.specs.Number.{radix};
+ghost use Rattle.std.specs.Prelude.{◌≡◌, ◌<◌, ◌≤◌, ◌-◌, ◌^◌, IfSome, IfErr, IsTrue, length};
+ghost use Rattle.gd_lexer.specs.Lexical.{is_lexical};
+ghost use Rattle.gd_lexer.specs.Number.{radix, appended};
 ghost use Rattle.gd_lexer.specs.Follows.{Follows};
 
 use crate::cursor::Cursor;
@@ -40,7 +41,8 @@ fn digit(glyph: Option<Glyph>, base: Base) -> Option<u32>
 
 /// The value with one more digit, or `None` where it is above the greatest integer.
 fn append(value: Option<u64>, base: Base, digit: u32) -> Option<u64>
-    ensures { IfSome result (λ v. v < 2 ^ 63) }
+    ensures value { result ≡ appended value (radix base) digit }
+    ensures small { IfSome result (λ v. v < 2 ^ 63) }
 {
     let value = value?
         .checked_mul(u64::from(base.radix()))?
@@ -110,6 +112,7 @@ fn has_exponent(cursor: &Cursor) -> bool {
 
 /// Reads the number that begins with the next digit, or tells the rule that it breaks.
 pub fn number(cursor: &mut Cursor) -> Result<i64, Rule>
+    ensures lexical { IfErr result (λ r. IsTrue (is_lexical r)) }
     ensures follows { Follows cursor.old cursor.new }
     ensures fewer { length cursor.new.glyphs ≤ length cursor.old.glyphs - 1 }
 {

@@ -4,8 +4,8 @@ ghost use Rattle.gd_lexer.specs.Follows.{Follows};
 
 use crate::cursor::Cursor;
 use crate::escape::escape;
-use crate::fault::LexFault;
 use crate::glyph::Glyph;
+use crate::stop::{Fault, fault_at};
 use gd_model::Rule;
 use no_memory::NoMemory;
 use std::alloc::Global;
@@ -22,7 +22,7 @@ struct Quote {
 #[derive(Drop)]
 pub struct Body {
     pub chars: Vec<char>,
-    pub fault: Option<LexFault>,
+    pub fault: Option<Fault>,
 }
 
 impl Body {
@@ -46,7 +46,7 @@ impl Body {
     }
 
     /// Keeps the first fault.
-    pub fn refuse(&mut self, fault: LexFault) {
+    pub fn refuse(&mut self, fault: Fault) {
         if self.fault.is_none() {
             self.fault = Some(fault);
         }
@@ -106,7 +106,7 @@ fn plain(cursor: &mut Cursor, glyph: Glyph, body: &mut Body) -> Result<(), NoMem
     ensures fewer { OnOk result (length cursor.new.glyphs ≤ length cursor.old.glyphs - 1) }
 {
     match glyph {
-        Glyph::Bad(_) => body.refuse(LexFault::Fault(cursor.pos(), Rule::NotUtf8)),
+        Glyph::Bad(_) => body.refuse(fault_at(cursor.pos(), Rule::NotUtf8)),
         Glyph::Char('\r') if cursor.sees_second('\n') => {
             body.push('\n')?;
             cursor.advance();
