@@ -1,0 +1,4 @@
+pub mod GlyphLemmas
+pub mod CursorLemmas
+pub mod FollowsLemmas
+pub mod FoundLemmas

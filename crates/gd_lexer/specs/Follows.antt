@@ -1,0 +1,16 @@
+-- One spot of a file is at or behind another.
+use Rattle.std.specs.Prelude.{◌≡◌, ℕ, ◌+◌, ◌<◌, ◌≤◌, ◌⊎◌, length}
+use Rattle.gd_syntax.specs.declared.pos.Pos.{Pos}
+use Rattle.gd_lexer.specs.Cursor.{Spot}
+
+-- a place is the other, or stands before it
+abbrev pub IsAtMost : Pos → Pos → Type 0
+IsAtMost a b = (a.line < b.line) ⊎ ((a.line ≡ b.line) × (a.column ≤ b.column))
+
+pub record Follows (old new : Spot) : Type 0 where
+  pub fewer : length new.glyphs ≤ length old.glyphs
+  -- a glyph has at least a byte
+  pub wide : length old.glyphs + old.offset ≤ length new.glyphs + new.offset
+  pub whole : new.offset + new.left ≡ old.offset + old.left
+  pub later : IsAtMost old.pos new.pos
+  pub file : new.pos.file ≡ old.pos.file

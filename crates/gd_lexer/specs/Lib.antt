@@ -1,0 +1,14 @@
+pub mod Glyphs
+pub mod Cursor
+pub mod CursorView
+pub mod Follows
+pub mod Number
+pub mod Lexical
+pub mod LexFaults
+pub mod Found
+pub mod FoundView
+pub mod Lines
+pub mod Sound
+pub mod Stops
+pub mod Escape
+pub mod Mark

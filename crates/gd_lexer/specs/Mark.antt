@@ -1,0 +1,30 @@
+-- The longest mark at the front of some glyphs.
+use Rattle.std.specs.Prelude.{ℕ, ◌==◌, ◌||◌, Bool, true, false, if◌then◌else◌, List, Option, Some, None}
+use Rattle.gd_syntax.specs.declared.token.Mark.{Mark}
+use Rattle.gd_syntax.specs.declared.token.Mark.TheVariants as marks
+use Rattle.gd_lexer.specs.declared.glyph.Glyph.{Glyph}
+use Rattle.gd_lexer.specs.Cursor.{sees}
+
+abbrev pub with_equal : List Glyph → Mark → Mark → Mark × ℕ
+with_equal gs plain equal = if sees 61 gs 1 then (equal, 2) else (plain, 1)
+
+abbrev pub arithmetic : ℕ → List Glyph → Mark × ℕ
+arithmetic c gs =
+    if c == 43 then with_equal gs marks.Plus marks.PlusEqual
+    else (if c == 45 then (if sees 62 gs 1 then (marks.Arrow, 2) else with_equal gs marks.Minus marks.MinusEqual)
+    else (if c == 47 then with_equal gs marks.Slash marks.SlashEqual else with_equal gs marks.Percent marks.PercentEqual))
+
+abbrev pub star : List Glyph → Mark × ℕ
+star gs = if sees 42 gs 1 then (if sees 61 gs 2 then (marks.StarStarEqual, 3) else (marks.StarStar, 2)) else with_equal gs marks.Star marks.StarEqual
+
+abbrev pub bits : ℕ → List Glyph → Mark × ℕ
+bits c gs =
+    if c == 38 then (if sees 38 gs 1 then (marks.AndAnd, 2) else with_equal gs marks.Ampersand marks.AmpersandEqual)
+    else (if c == 124 then (if sees 124 gs 1 then (marks.OrOr, 2) else with_equal gs marks.Bar marks.BarEqual)
+    else with_equal gs marks.Caret marks.CaretEqual)
+
+abbrev pub angle : ℕ → List Glyph → Mark × ℕ
+angle c gs =
+    if sees c gs 1
+    then (if c == 60 then (if sees 61 gs 2 then (marks.ShiftLeftEqual, 3) else (marks.ShiftLeft, 2)) else (if sees 61 gs 2 then (marks.ShiftRightEqual, 3) else (marks.ShiftRight, 2)))
+    else (if c == 60 then with_equal gs marks.Less marks.LessEqual else with_equal gs marks.Greater marks.GreaterEqual)

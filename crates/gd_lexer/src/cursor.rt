@@ -1,0 +1,184 @@
+//! A place in a file, and what stands from there on.
+ghost use Rattle.std.specs.Prelude.{◌≡◌, ◌+◌, ◌-◌, ◌^◌, ◌≤◌, ◌<◌, length, slice_get, OnSome, IfNone};
+ghost use Rattle.gd_lexer.specs.Cursor.{advanced, after_glyph, start_of};
+ghost use Rattle.gd_lexer.specs.Cursor as spec;
+ghost use Rattle.gd_lexer.specs.Follows.{Follows};
+
+use crate::glyph;
+use crate::glyph::Glyph;
+use gd_syntax::Pos;
+use std::marker::Model;
+
+/// Reads the glyphs of a file in order.
+#[derive(Drop)]
+pub struct Cursor<'a> {
+    rest: &'a [u8],
+    offset: u32,
+    pos: Pos,
+}
+
+impl<'a> Model for Cursor<'a> {
+    ghost use Rattle.gd_lexer.specs.Cursor.{Spot};
+
+    ghost Value = { Spot };
+
+    ghost use Rattle.gd_lexer.specs.CursorView.{spot_of, IsInFile};
+
+    ghost view = { spot_of };
+
+    ghost invariant = { IsInFile };
+}
+
+impl<'a> Cursor<'a> {
+    /// At the start of a file, behind a byte order mark if there is one.
+    pub fn new(file: u32, bytes: &'a [u8]) -> Cursor<'a>
+        requires { length bytes.now ≤ 1_048_576 }
+        ensures { result ≡ start_of file bytes.now }
+    {
+        let pos = Pos {
+            file,
+            line: 1,
+            column: 1,
+        };
+        match bytes {
+            [0xEF, 0xBB, 0xBF, rest @ ..] => Cursor {
+                rest,
+                offset: 3,
+                pos,
+            },
+            _ => Cursor {
+                rest: bytes,
+                offset: 0,
+                pos,
+            },
+        }
+    }
+
+    /// The place of the next glyph.
+    pub fn pos(&self) -> Pos
+        ensures value { result ≡ self.now.pos }
+        ensures line { (1 ≤ result.line) × (result.line ≤ self.now.offset + 1) }
+        ensures column { (1 ≤ result.column) × (result.column ≤ self.now.offset + 1) }
+    {
+        self.pos
+    }
+
+    /// The number of bytes before the next glyph.
+    pub fn offset(&self) -> u32
+        ensures value { result ≡ self.now.offset }
+        ensures room { result + self.now.left ≤ 1_048_576 }
+    {
+        self.offset
+    }
+
+    /// The next glyph, or `None` at the end.
+    pub fn peek(&self) -> Option<Glyph>
+        ensures value { result ≡ slice_get self.now.glyphs 0 }
+        ensures some { OnSome result (0 < length self.now.glyphs) }
+        ensures none { IfNone result (length self.now.glyphs ≡ 0) }
+    {
+        glyph::first(self.rest)
+    }
+
+    /// The glyph after the next.
+    pub fn second(&self) -> Option<Glyph>
+        ensures { result ≡ slice_get self.now.glyphs 1 }
+    {
+        glyph::first(glyph::after_first(self.rest))
+    }
+
+    /// The glyph after the next two.
+    pub fn third(&self) -> Option<Glyph>
+        ensures { result ≡ slice_get self.now.glyphs 2 }
+    {
+        glyph::first(glyph::after_first(glyph::after_first(self.rest)))
+    }
+
+    /// Whether this character comes next.
+    pub fn sees(&self, c: char) -> bool
+        ensures { result ≡ spec.sees c self.now.glyphs 0 }
+    {
+        is_char(self.peek(), c)
+    }
+
+    /// Whether this character comes after the next glyph.
+    pub fn sees_second(&self, c: char) -> bool
+        ensures { result ≡ spec.sees c self.now.glyphs 1 }
+    {
+        is_char(self.second(), c)
+    }
+
+    /// Whether this character comes after the next two glyphs.
+    pub fn sees_third(&self, c: char) -> bool
+        ensures { result ≡ spec.sees c self.now.glyphs 2 }
+    {
+        is_char(self.third(), c)
+    }
+
+    /// Goes over the next glyph. At the end nothing happens.
+    pub fn advance(&mut self)
+        ensures value { self.new ≡ advanced self.old }
+        ensures follows { Follows self.old self.new }
+        ensures fewer { length self.new.glyphs ≡ length self.old.glyphs - 1 }
+    {
+        let Some(glyph) = glyph::first(self.rest) else {
+            return;
+        };
+        let width = glyph.width();
+        self.rest = glyph::behind(self.rest, width);
+        self.offset += width as u32;
+        self.pos = after(self.pos, glyph);
+    }
+
+    /// Goes over the next two glyphs.
+    pub fn advance_two(&mut self)
+        ensures value { self.new ≡ advanced (advanced self.old) }
+        ensures follows { Follows self.old self.new }
+        ensures fewer { length self.new.glyphs ≡ length self.old.glyphs - 2 }
+    {
+        self.advance();
+        self.advance();
+    }
+
+    /// Goes over the next three glyphs.
+    pub fn advance_three(&mut self)
+        ensures value { self.new ≡ advanced (advanced (advanced self.old)) }
+        ensures follows { Follows self.old self.new }
+        ensures fewer { length self.new.glyphs ≡ length self.old.glyphs - 3 }
+    {
+        self.advance();
+        self.advance();
+        self.advance();
+    }
+}
+
+/// Whether the glyph is this character.
+fn is_char(glyph: Option<Glyph>, c: char) -> bool
+    ensures { result ≡ spec.is_char glyph c }
+{
+    match glyph {
+        Some(Glyph::Char(found)) => found == c,
+        _ => false,
+    }
+}
+
+/// The place behind a glyph.
+fn after(pos: Pos, glyph: Glyph) -> Pos
+    requires line { pos.line < 2 ^ 32 - 1 }
+    requires column { pos.column < 2 ^ 32 - 1 }
+    ensures { result ≡ after_glyph glyph pos }
+{
+    let Pos { file, line, column } = pos;
+    match glyph {
+        Glyph::Char('\n') => Pos {
+            file,
+            line: line + 1,
+            column: 1,
+        },
+        _ => Pos {
+            file,
+            line,
+            column: column + 1,
+        },
+    }
+}

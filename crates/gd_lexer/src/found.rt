@@ -1,0 +1,126 @@
+//! What was found in a file.
+ghost use Rattle.std.specs.Prelude.{◌≡◌, ◌+◌, ◌≤◌, [], OnOk, IfOk, length};
+ghost use Rattle.gd_lexer.specs.Follows.{IsAtMost};
+ghost use Rattle.gd_lexer.specs.Found.{IsNotEnd, AreWhole};
+
+use gd_syntax::{Pos, Token, TokenKind};
+use no_memory::NoMemory;
+use std::alloc::Global;
+use std::marker::Model;
+
+/// The bytes from `start` to before `end`.
+#[derive(Clone, Copy, Debug, PartialEq, Eq)]
+pub struct Span {
+    pub start: u32,
+    pub end: u32,
+}
+
+/// The tokens before the file's end, the bytes of each, and the bytes of each comment.
+#[derive(Drop)]
+pub struct Found {
+    tokens: Vec<Token>,
+    spans: Vec<Span>,
+    comments: Vec<Span>,
+    /// The place of the last token, or the file's start.
+    last: Pos,
+}
+
+impl Model for Found {
+    ghost use Rattle.gd_lexer.specs.Found.{FoundList};
+
+    ghost Value = { FoundList };
+
+    ghost use Rattle.gd_lexer.specs.FoundView.{found_of, IsInOrder};
+
+    ghost view = { found_of };
+
+    ghost invariant = { IsInOrder };
+}
+
+/// What a whole file has: its tokens with End, the bytes of each, and the bytes of each comment.
+#[derive(Drop)]
+pub struct Whole {
+    pub tokens: Vec<Token>,
+    pub spans: Vec<Span>,
+    pub comments: Vec<Span>,
+}
+
+impl Found {
+    /// Nothing, of the file that starts here.
+    pub fn new(alloc: Global, start: Pos) -> Found
+        ensures tokens { result.tokens ≡ [] }
+        ensures last { result.last ≡ start }
+    {
+        Found {
+            tokens: Vec::new(alloc),
+            spans: Vec::new(alloc),
+            comments: Vec::new(alloc),
+            last: start,
+        }
+    }
+
+    /// Adds a token.
+    pub fn push(&mut self, pos: Pos, kind: TokenKind, span: Span) -> Result<(), NoMemory>
+        requires file { pos.file ≡ self.old.last.file }
+        requires line { 1 ≤ pos.line }
+        requires column { 1 ≤ pos.column }
+        requires later { IsAtMost self.old.last pos }
+        requires open { IsNotEnd kind }
+        ensures last { OnOk result (self.new.last ≡ pos) }
+        ensures count { OnOk result (length self.new.tokens ≡ length self.old.tokens + 1) }
+    {
+        self.spans.push(span)?;
+        self.tokens.push(Token { pos, kind })?;
+        self.last = pos;
+        Ok(())
+    }
+
+    /// Adds a token that has no bytes and stands before the byte `at`.
+    pub fn push_empty(&mut self, pos: Pos, kind: TokenKind, at: u32) -> Result<(), NoMemory>
+        requires file { pos.file ≡ self.old.last.file }
+        requires line { 1 ≤ pos.line }
+        requires column { 1 ≤ pos.column }
+        requires later { IsAtMost self.old.last pos }
+        requires open { IsNotEnd kind }
+        ensures last { OnOk result (self.new.last ≡ pos) }
+        ensures count { OnOk result (length self.new.tokens ≡ length self.old.tokens + 1) }
+    {
+        self.push(pos, kind, Span { start: at, end: at })
+    }
+
+    /// Adds a comment.
+    pub fn comment(&mut self, span: Span) -> Result<(), NoMemory>
+        ensures last { self.new.last ≡ self.old.last }
+        ensures tokens { self.new.tokens ≡ self.old.tokens }
+    {
+        self.comments.push(span)?;
+        Ok(())
+    }
+
+    /// Adds End, at the place `pos` before the byte `at`.
+    pub fn finish(self, pos: Pos, at: u32) -> Result<Whole, NoMemory>
+        requires file { pos.file ≡ self.last.file }
+        requires line { 1 ≤ pos.line }
+        requires column { 1 ≤ pos.column }
+        requires later { IsAtMost self.last pos }
+        ensures whole { IfOk result (λ w. AreWhole pos.file w.tokens.items) }
+        ensures count { IfOk result (λ w. length w.tokens.items ≡ length self.tokens + 1) }
+    {
+        let Found {
+            mut tokens,
+            mut spans,
+            comments,
+            ..
+        } = self;
+        tokens.push(Token {
+            pos,
+            kind: TokenKind::End,
+        })?;
+        spans.push(Span { start: at, end: at })?;
+        Ok(Whole {
+            tokens,
+            spans,
+            comments,
+        })
+    }
+}

@@ -1,0 +1,417 @@
+//! The steps over a file.
+ghost use Rattle.std.specs.Prelude.{◌≡◌, ◌<◌, ◌≤◌, ◌+◌, ◌-◌, ◌*◌, OnOk, IfOk, IsTrue, length};
+ghost use Rattle.gd_lexer.specs.Lexical.{is_lexical};
+ghost use Rattle.gd_lexer.specs.Found.{IsNotEnd, AreWhole};
+ghost use Rattle.gd_lexer.specs.Sound.{IsSound, IsPlaced, load};
+ghost use Rattle.gd_lexer.specs.Follows.{Follows};
+
+use crate::brackets::Brackets;
+use crate::cursor::Cursor;
+use crate::found::{Found, Span, Whole};
+use crate::glyph::Glyph;
+use crate::lines::{Blank, Lines};
+use crate::mark::mark;
+use crate::name::{begins_name, read_name};
+use crate::number::number;
+use crate::quoted::{Body, is_quote, quoted};
+use crate::stop::{Fault, Stop, fault_at};
+use crate::stopped::stop_at;
+use crate::word::{Word, word_of};
+use gd_model::Rule;
+use gd_syntax::{Mark, Pos, Text, TokenKind};
+use no_memory::NoMemory;
+use std::alloc::Global;
+
+/// How a token begins.
+#[derive(Clone, Copy, Debug, PartialEq, Eq)]
+enum Start {
+    Name(char),
+    Number,
+    Quoted,
+    Mark(Mark, u8),
+    /// A dot before a digit.
+    Float,
+}
+
+/// A file that is read.
+#[derive(Drop)]
+pub struct Lexer<'a> {
+    alloc: Global,
+    cursor: Cursor<'a>,
+    lines: Lines,
+    brackets: Brackets,
+    found: Found,
+    /// What is read of the next token.
+    body: Body,
+}
+
+/// A token's kind, and the first fault inside it.
+type Scanned = (TokenKind, Option<Fault>);
+
+/// How a token begins with this character at the cursor, or `None` where none does.
+fn start_of(c: char, cursor: &Cursor) -> Option<Start> {
+    if c.is_ascii_digit() {
+        return Some(Start::Number);
+    }
+    if is_quote(c) || (c == 'r' && (cursor.sees_second('"') || cursor.sees_second('\''))) {
+        return Some(Start::Quoted);
+    }
+    if begins_name(c) {
+        return Some(Start::Name(c));
+    }
+    if c == '.' && is_digit(cursor.second()) {
+        return Some(Start::Float);
+    }
+    let (mark, count) = mark(c, cursor)?;
+    Some(Start::Mark(mark, count))
+}
+
+fn is_digit(glyph: Option<Glyph>) -> bool {
+    match glyph {
+        Some(Glyph::Char(c)) => c.is_ascii_digit(),
+        _ => false,
+    }
+}
+
+impl<'a> Lexer<'a> {
+    /// At the start of a file.
+    pub fn new(alloc: Global, file: u32, bytes: &'a [u8]) -> Lexer<'a>
+        requires { length bytes.now ≤ 1_048_576 }
+        ensures sound { IsSound result }
+        ensures file { result.found.last.file ≡ file }
+        ensures size { result.cursor.offset + result.cursor.left ≡ length bytes.now }
+    {
+        let cursor = Cursor::new(file, bytes);
+        let found = Found::new(alloc, cursor.pos());
+        Lexer {
+            alloc,
+            cursor,
+            lines: Lines::new(alloc),
+            brackets: Brackets::new(alloc),
+            found,
+            body: Body::new(alloc),
+        }
+    }
+
+    /// Reads the file to its end.
+    pub fn run(mut self) -> Result<Whole, Stop>
+        requires { IsSound self }
+        ensures whole { IfOk result (λ w. AreWhole self.entry.found.last.file w.tokens.items) }
+        ensures count { IfOk result (λ w. length w.tokens.items ≤ 4 * (self.entry.cursor.offset + self.entry.cursor.left) + 1) }
+    {
+        while let Some(glyph) = self.cursor.peek() {
+            self.step(glyph)?;
+        }
+        self.finish()
+    }
+
+    /// Goes over the next glyph, and over the token or comment that begins with it.
+    fn step(&mut self, glyph: Glyph) -> Result<(), Stop>
+        requires sound { IsSound self.old }
+        requires more { 0 < length self.old.cursor.glyphs }
+        ensures sound { OnOk result (IsSound self.new) }
+        ensures follows { Follows self.old.cursor self.new.cursor }
+        ensures fewer { OnOk result (length self.new.cursor.glyphs ≤ length self.old.cursor.glyphs - 1) }
+    {
+        let Glyph::Char(c) = glyph else {
+            return self.stray(Rule::NotUtf8);
+        };
+        match c {
+            ' ' => self.blank(Blank::Space),
+            '\t' => self.blank(Blank::Tab),
+            '\n' => return self.line_end(),
+            '#' => return self.comment(),
+            '\\' => return self.join(),
+            '\r' if self.cursor.sees_second('\n') => self.cursor.advance(),
+            _ => return self.other(c),
+        }
+        Ok(())
+    }
+
+    fn blank(&mut self, blank: Blank)
+        requires sound { IsSound self.old }
+        ensures sound { IsSound self.new }
+        ensures follows { Follows self.old.cursor self.new.cursor }
+        ensures fewer { length self.new.cursor.glyphs ≡ length self.old.cursor.glyphs - 1 }
+    {
+        self.lines.blank(blank, self.cursor.pos());
+        self.cursor.advance();
+    }
+
+    /// Goes over a glyph that begins no token.
+    fn stray(&mut self, rule: Rule) -> Result<(), Stop>
+        requires lexical { IsTrue (is_lexical rule) }
+        requires sound { IsSound self.old }
+        ensures sound { OnOk result (IsSound self.new) }
+        ensures follows { Follows self.old.cursor self.new.cursor }
+        ensures fewer { OnOk result (length self.new.cursor.glyphs ≤ length self.old.cursor.glyphs - 1) }
+    {
+        self.lines.stray(fault_at(self.cursor.pos(), rule))?;
+        self.cursor.advance();
+        Ok(())
+    }
+
+    /// Goes over a backslash, which joins two lines or is a fault.
+    fn join(&mut self) -> Result<(), Stop>
+        requires sound { IsSound self.old }
+        ensures sound { OnOk result (IsSound self.new) }
+        ensures follows { Follows self.old.cursor self.new.cursor }
+        ensures fewer { OnOk result (length self.new.cursor.glyphs ≤ length self.old.cursor.glyphs - 1) }
+    {
+        if self.cursor.sees_second('\n') {
+            self.cursor.advance_two();
+            Ok(())
+        } else if self.cursor.sees_second('\r') && self.cursor.sees_third('\n') {
+            self.cursor.advance_three();
+            Ok(())
+        } else {
+            self.stray(Rule::StrayCharacter)
+        }
+    }
+
+    /// Goes over a comment with its `#`, up to the line's end.
+    fn comment(&mut self) -> Result<(), Stop>
+        requires sound { IsSound self.old }
+        ensures sound { OnOk result (IsSound self.new) }
+        ensures follows { Follows self.old.cursor self.new.cursor }
+        ensures fewer { OnOk result (length self.new.cursor.glyphs ≤ length self.old.cursor.glyphs - 1) }
+    {
+        self.lines.comment()?;
+        let start = self.cursor.offset();
+        self.cursor.advance();
+        self.comment_text()?;
+        let end = self.cursor.offset();
+        self.found.comment(Span { start, end })?;
+        Ok(())
+    }
+
+    fn comment_text(&mut self) -> Result<(), Stop>
+        ensures follows { Follows self.old.cursor self.new.cursor }
+        ensures found { self.new.found ≡ self.old.found }
+        ensures lines { self.new.lines ≡ self.old.lines }
+    {
+        while let Some(glyph) = self.cursor.peek() {
+            match glyph {
+                Glyph::Char('\n') => break,
+                Glyph::Char('\r') if !self.cursor.sees_second('\n') => {
+                    return Err(stop_at(self.cursor.pos(), Rule::StrayCharacter));
+                }
+                Glyph::Char(_) => self.cursor.advance(),
+                Glyph::Bad(_) => return Err(stop_at(self.cursor.pos(), Rule::NotUtf8)),
+            }
+        }
+        Ok(())
+    }
+
+    /// Goes over a line feed. Inside brackets it is a blank.
+    fn line_end(&mut self) -> Result<(), Stop>
+        requires sound { IsSound self.old }
+        ensures sound { OnOk result (IsSound self.new) }
+        ensures follows { Follows self.old.cursor self.new.cursor }
+        ensures fewer { OnOk result (length self.new.cursor.glyphs ≤ length self.old.cursor.glyphs - 1) }
+    {
+        let pos = self.cursor.pos();
+        let start = self.cursor.offset();
+        self.cursor.advance();
+        if self.brackets.is_inside() {
+            return Ok(());
+        }
+        if self.lines.is_open() {
+            let end = self.cursor.offset();
+            self.found
+                .push(pos, TokenKind::Newline, Span { start, end })?;
+            self.brackets.end_item();
+        }
+        self.lines.end()
+    }
+
+    fn other(&mut self, c: char) -> Result<(), Stop>
+        requires sound { IsSound self.old }
+        requires more { 0 < length self.old.cursor.glyphs }
+        ensures sound { OnOk result (IsSound self.new) }
+        ensures follows { Follows self.old.cursor self.new.cursor }
+        ensures fewer { OnOk result (length self.new.cursor.glyphs ≤ length self.old.cursor.glyphs - 1) }
+    {
+        match start_of(c, &self.cursor) {
+            Some(start) => self.token(start),
+            None => self.stray(Rule::StrayCharacter),
+        }
+    }
+
+    /// Goes over a token. The faults at its place come by their rules, before those inside it.
+    fn token(&mut self, start: Start) -> Result<(), Stop>
+        requires sound { IsSound self.old }
+        requires more { 0 < length self.old.cursor.glyphs }
+        ensures sound { OnOk result (IsSound self.new) }
+        ensures follows { Follows self.old.cursor self.new.cursor }
+        ensures fewer { OnOk result (length self.new.cursor.glyphs ≤ length self.old.cursor.glyphs - 1) }
+    {
+        let pos = self.cursor.pos();
+        let at = self.cursor.offset();
+        let deeper = self.open_line(pos, at)?;
+        let (kind, inner) = self.scan(start, pos)?;
+        self.take(&kind, pos)?;
+        if let Some(level) = deeper {
+            self.lines.open_block(level, pos)?;
+            self.found.push_empty(pos, TokenKind::Indent, at)?;
+        }
+        if let Some(fault) = inner {
+            return Err(Stop::Fault(fault));
+        }
+        let span = Span {
+            start: at,
+            end: self.cursor.offset(),
+        };
+        self.found.push(pos, kind, span)?;
+        Ok(())
+    }
+
+    /// Begins a logical line where the token at `pos` is its first, and closes the blocks that end before it.
+    /// The answer is the level of a block that begins with it.
+    fn open_line(&mut self, pos: Pos, at: u32) -> Result<Option<u32>, Stop>
+        requires { IsPlaced self.old pos }
+        ensures placed { OnOk result (IsPlaced self.new pos) }
+        ensures load { OnOk result (load self.new ≤ load self.old + 1) }
+        ensures cursor { self.new.cursor ≡ self.old.cursor }
+    {
+        if self.lines.is_open() {
+            return Ok(None);
+        }
+        let level = self.lines.open()?;
+        if level > self.lines.level() {
+            return Ok(Some(level));
+        }
+        self.close_blocks(level, pos, at)?;
+        if level != self.lines.level() {
+            return Err(stop_at(pos, Rule::UnmatchedDedent));
+        }
+        Ok(None)
+    }
+
+    /// Closes the blocks above this level before the token at `pos`.
+    fn close_blocks(&mut self, level: u32, pos: Pos, at: u32) -> Result<(), Stop>
+        requires { IsPlaced self.old pos }
+        ensures placed { OnOk result (IsPlaced self.new pos) }
+        ensures load { OnOk result (load self.new ≤ load self.old) }
+        ensures cursor { self.new.cursor ≡ self.old.cursor }
+    {
+        'above: while level < self.lines.level() {
+            self.lines.close_block();
+            self.found.push_empty(pos, TokenKind::Dedent, at)?;
+        }
+        Ok(())
+    }
+
+    fn take(&mut self, kind: &TokenKind, pos: Pos) -> Result<(), Stop>
+        requires line { 1 ≤ pos.line }
+        requires column { 1 ≤ pos.column }
+        ensures cursor { self.new.cursor ≡ self.old.cursor }
+        ensures found { self.new.found ≡ self.old.found }
+        ensures lines { self.new.lines ≡ self.old.lines }
+    {
+        self.brackets.take(kind, pos)
+    }
+
+    /// Goes over the token that begins so at `pos`.
+    fn scan(&mut self, start: Start, pos: Pos) -> Result<Scanned, Stop>
+        requires line { 1 ≤ pos.line }
+        requires column { 1 ≤ pos.column }
+        ensures found { self.new.found ≡ self.old.found }
+        ensures lines { self.new.lines ≡ self.old.lines }
+        ensures kind { IfOk result (λ r. IsNotEnd r.0) }
+        ensures follows { Follows self.old.cursor self.new.cursor }
+        ensures fewer { OnOk result (length self.new.cursor.glyphs ≤ length self.old.cursor.glyphs - 1) }
+    {
+        match start {
+            Start::Name(c) => self.name(c, pos),
+            Start::Quoted => self.quoted(pos),
+            Start::Number => match number(&mut self.cursor) {
+                Ok(value) => Ok((TokenKind::Number(value), None)),
+                Err(rule) => Err(stop_at(pos, rule)),
+            },
+            Start::Mark(mark, count) => {
+                self.mark(count);
+                Ok((TokenKind::Mark(mark), None))
+            }
+            Start::Float => Err(stop_at(pos, Rule::Float)),
+        }
+    }
+
+    /// Goes over a mark of one to three characters.
+    fn mark(&mut self, count: u8)
+        ensures found { self.new.found ≡ self.old.found }
+        ensures lines { self.new.lines ≡ self.old.lines }
+        ensures follows { Follows self.old.cursor self.new.cursor }
+        ensures fewer { length self.new.cursor.glyphs ≤ length self.old.cursor.glyphs - 1 }
+    {
+        match count {
+            3 => self.cursor.advance_three(),
+            2 => self.cursor.advance_two(),
+            _ => self.cursor.advance(),
+        }
+    }
+
+    fn name(&mut self, c: char, pos: Pos) -> Result<Scanned, Stop>
+        requires line { 1 ≤ pos.line }
+        requires column { 1 ≤ pos.column }
+        ensures found { self.new.found ≡ self.old.found }
+        ensures lines { self.new.lines ≡ self.old.lines }
+        ensures kind { IfOk result (λ r. IsNotEnd r.0) }
+        ensures follows { Follows self.old.cursor self.new.cursor }
+        ensures fewer { OnOk result (length self.new.cursor.glyphs ≤ length self.old.cursor.glyphs - 1) }
+    {
+        self.body.clear();
+        self.body.push(c)?;
+        self.cursor.advance();
+        read_name(&mut self.cursor, &mut self.body.chars)?;
+        match word_of(self.body.chars.as_slice()) {
+            Word::Name => Ok((TokenKind::Word(self.text()?), None)),
+            Word::Keyword(keyword) => Ok((TokenKind::Keyword(keyword), None)),
+            Word::Float => Err(stop_at(pos, Rule::Float)),
+        }
+    }
+
+    fn quoted(&mut self, pos: Pos) -> Result<Scanned, Stop>
+        requires line { 1 ≤ pos.line }
+        requires column { 1 ≤ pos.column }
+        ensures found { self.new.found ≡ self.old.found }
+        ensures lines { self.new.lines ≡ self.old.lines }
+        ensures kind { IfOk result (λ r. IsNotEnd r.0) }
+        ensures follows { Follows self.old.cursor self.new.cursor }
+        ensures fewer { OnOk result (length self.new.cursor.glyphs ≤ length self.old.cursor.glyphs - 1) }
+    {
+        self.body.clear();
+        let is_ended = quoted(&mut self.cursor, &mut self.body)?;
+        let fault = self.body.fault;
+        if !is_ended {
+            return Err(stop_at(pos, Rule::UnterminatedString));
+        }
+        Ok((TokenKind::Quoted(self.text()?), fault))
+    }
+
+    /// The text of the characters that were read.
+    fn text(&self) -> Result<Text, NoMemory> {
+        let chars = Vec::from_slice(self.alloc, self.body.chars.as_slice())?;
+        match Text::of(chars) {
+            Ok(text) => Ok(text),
+            Err(_) => Err(NoMemory),
+        }
+    }
+
+    /// Ends the last line and the open blocks.
+    fn finish(mut self) -> Result<Whole, Stop>
+        requires { IsSound self }
+        ensures whole { IfOk result (λ w. AreWhole self.entry.cursor.pos.file w.tokens.items) }
+        ensures count { IfOk result (λ w. length w.tokens.items ≤ load self.entry + 1) }
+    {
+        let pos = self.cursor.pos();
+        let at = self.cursor.offset();
+        if self.lines.is_open() {
+            self.found.push_empty(pos, TokenKind::Newline, at)?;
+        }
+        self.lines.end()?;
+        self.close_blocks(0, pos, at)?;
+        let Lexer { found, .. } = self;
+        Ok(found.finish(pos, at)?)
+    }
+}
