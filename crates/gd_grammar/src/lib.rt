@@ -1,0 +1,7 @@
+//! Tokens as the tree of a file.
+#![tactic(auto)]
+
+mod cursor;
+mod stop;
+mod types;
+
