@@ -1,1 +1,3 @@
 pub mod Cursor
+pub mod Fault
+pub mod Nests

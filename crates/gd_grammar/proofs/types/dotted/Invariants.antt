@@ -1,8 +1,9 @@
-use Rattle.gd_grammar.specs.Cursor.{left, Keeps}
+use Rattle.std.proofs.Common.{◌<◌}
+use Rattle.gd_grammar.specs.Cursor.{left}
 use Rattle.gd_grammar.proofs.types.dotted.Given as goal
 
-abbrev pub invariant-loop-cursor : goal.invariant-loop-cursor
-invariant-loop-cursor l = Keeps l.initial.cursor l.cursor
+abbrev pub invariant-names : goal.invariant-names
+invariant-names l = left l.cursor < left l.fn.cursor
 
-abbrev pub decreases-loop-cursor : goal.decreases-loop-cursor
-decreases-loop-cursor l = left l.cursor
+abbrev pub decreases-names : goal.decreases-names
+decreases-names l = left l.cursor
