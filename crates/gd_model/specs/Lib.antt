@@ -5,3 +5,4 @@ pub mod Thing
 pub mod KeyHash
 pub mod Place
 pub mod Refusal
+pub mod Store

@@ -1,0 +1,16 @@
+//! Arrays and dictionaries: lists that know the types of what they hold, and may be read-only.
+#![tactic(auto)]
+
+mod array;
+mod dict;
+mod fault;
+mod key;
+mod look;
+mod place;
+
+pub use array::TypedArray;
+pub use dict::OrderedDict;
+pub use fault::{MAX_ITEMS, ThingFault};
+pub use key::key_of;
+pub use look::Look;
+pub use place::{clamped_place, gap_place, item_place};

@@ -1,0 +1,139 @@
+use crate::{
+    Arg, FormatFault, concat, decimal, find, format, is_valid_int, left, repeat, replace, right,
+    split, strip, substr, to_int,
+};
+use gd_syntax::{Text, TextFault};
+use std::alloc::Global;
+use std::test::Fail;
+
+fn text(alloc: Global, s: &str) -> Result<Text, TextFault> {
+    Text::from_utf8(alloc, s.as_bytes())
+}
+
+fn is(alloc: Global, made: Result<Text, TextFault>, wanted: &str) -> bool {
+    match (made, text(alloc, wanted)) {
+        (Ok(a), Ok(b)) => a == b,
+        _ => false,
+    }
+}
+
+#[test]
+fn cuts_and_joins(rt: HostRuntime) -> Result<(), Fail> {
+    let alloc = rt.alloc();
+    let a = text(alloc, "ab ab")?;
+    let (b, x, c) = (text(alloc, "b")?, text(alloc, "x")?, text(alloc, "c")?);
+    assert!(rt; is(alloc, substr(alloc, &a, 1, 2), "b "));
+    assert!(rt; is(alloc, substr(alloc, &a, 7, -1), ""));
+    assert!(rt; matches!(substr(alloc, &a, -1, 2), Err(TextFault::OutOfRange)));
+    assert!(rt; is(alloc, replace(alloc, &a, &b, &x), "ax ax"));
+    assert!(rt; is(alloc, repeat(alloc, &a, 2), "ab abab ab"));
+    assert!(rt; matches!(repeat(alloc, &a, -1), Err(TextFault::OutOfRange)));
+    assert!(rt; matches!(repeat(alloc, &a, i64::MAX), Err(TextFault::TooLong)));
+    assert!(rt; is(alloc, strip(alloc, &text(alloc, " \tab ab\n")?), "ab ab"));
+    assert!(rt; is(alloc, left(alloc, &a, 2), "ab"));
+    assert!(rt; is(alloc, left(alloc, &a, -4), "a"));
+    assert!(rt; is(alloc, right(alloc, &a, -3), "ab"));
+    assert!(rt; is(alloc, concat(alloc, &a, &c), "ab abc"));
+    assert!(rt; is(alloc, decimal(alloc, -5), "-5"));
+    Ok(())
+}
+
+#[test]
+fn finds_and_splits(rt: HostRuntime) -> Result<(), Fail> {
+    let alloc = rt.alloc();
+    let a = text(alloc, "ab ab")?;
+    assert_eq!(rt; find(&a, &text(alloc, "")?, 0), None);
+    assert_eq!(rt; find(&a, &text(alloc, "b")?, 2), Some(4));
+    assert_eq!(rt; find(&a, &text(alloc, "b")?, -1), None);
+    let parts = split(alloc, &a, &text(alloc, " ")?, true)?;
+    assert_eq!(rt; parts.len(), 2);
+    assert!(rt; parts[0] == parts[1]);
+    let aaa = text(alloc, "aaa")?;
+    let aa = text(alloc, "aa")?;
+    assert!(rt; is(alloc, replace(alloc, &aaa, &aa, &text(alloc, "b")?), "ba"));
+    assert_eq!(rt;
+        split(alloc, &text(alloc, "")?, &text(alloc, "")?, true)?.len(),
+        0
+    );
+    assert_eq!(rt;
+        split(alloc, &text(alloc, ",a,,")?, &text(alloc, ",")?, false)?.len(),
+        1
+    );
+    Ok(())
+}
+
+#[test]
+fn numbers(rt: HostRuntime) -> Result<(), Fail> {
+    let alloc = rt.alloc();
+    for (s, valid, value) in [
+        ("12", true, 12),
+        ("-7", true, -7),
+        ("+", false, 0),
+        ("1-2", false, 12),
+        ("--3", false, 3),
+        ("-0x5.9", false, -5),
+        ("18446744073709551617", true, 1),
+        ("a", false, 0),
+    ] {
+        let a = text(alloc, s)?;
+        assert_eq!(rt; is_valid_int(&a), valid, "{s}");
+        assert_eq!(rt; to_int(&a), value, "{s}");
+    }
+    Ok(())
+}
+
+fn shown(alloc: Global, pattern: &str, arg: Arg) -> Result<Text, FormatFault> {
+    format(alloc, &text(alloc, pattern)?, &[arg])
+}
+
+fn gives(alloc: Global, pattern: &str, arg: Arg, wanted: &str) -> bool {
+    match (shown(alloc, pattern, arg), text(alloc, wanted)) {
+        (Ok(a), Ok(b)) => a == b,
+        _ => false,
+    }
+}
+
+#[test]
+fn patterns(rt: HostRuntime) -> Result<(), Fail> {
+    let alloc = rt.alloc();
+    let args = [Arg::Num(-42), Arg::Str(text(alloc, "ab")?), Arg::Num(7)];
+    let made = format(alloc, &text(alloc, "%05d|%-4s|%+d")?, &args)?;
+    assert!(rt; made == text(alloc, "-0042|ab  |+7")?);
+    for (pattern, n, wanted) in [
+        ("%x%%", 255, "ff%"),
+        ("%X", -255, "-FF"),
+        ("%o", 8, "10"),
+        ("%-05d|", 7, "7    |"),
+        ("%5s", 7, "    7"),
+        ("%c", 65, "A"),
+        ("%+05d", 7, "+0007"),
+        ("%s", 0, "0"),
+    ] {
+        assert!(rt; gives(alloc, pattern, Arg::Num(n), wanted), "{pattern}");
+    }
+    Ok(())
+}
+
+#[test]
+fn bad_patterns(rt: HostRuntime) -> Result<(), Fail> {
+    let alloc = rt.alloc();
+    for (pattern, n) in [
+        ("%c", -1),
+        ("%c", 0xD800),
+        ("%", 1),
+        ("%q", 1),
+        ("%--d", 1),
+        ("%1000d", 1),
+        ("%5-d", 1),
+        ("no conversion", 1),
+        ("%d%d", 1),
+    ] {
+        let made = shown(alloc, pattern, Arg::Num(n));
+        assert!(rt; matches!(made, Err(FormatFault::BadFormat)), "{pattern}");
+    }
+    let word = Arg::Str(text(alloc, "ab")?);
+    assert!(rt; matches!(shown(alloc, "%c", word), Err(FormatFault::BadFormat)));
+    let other = Arg::Other(text(alloc, "a")?);
+    assert!(rt; matches!(shown(alloc, "%d", other), Err(FormatFault::BadFormat)));
+    Ok(())
+}
