@@ -1,5 +1,5 @@
 -- The count that a handle finds.
-use Rattle.std.proofs.Common.{◌≡◌, ℕ, ◌+◌, cond, eqb, List, Option, Some, None, IsSome, is_some, get_or, refl, sym, ap, ◌∙◌}
+use Rattle.std.proofs.Common.{◌≡◌, cond, List, Option, Some, None, IsSome, get_or, ap, ◌∙◌}
 use Rattle.std.specs.Option.{option_map}
 use Rattle.slot_arena.specs.declared.handle.Handle.{Handle}
 use Rattle.slot_arena.specs.declared.slab_slots.Slot.{Slot}

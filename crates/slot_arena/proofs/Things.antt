@@ -1,12 +1,12 @@
 -- What a slab's slots give as things: a look-up, a change of one slot, one slot more and one less.
-use Rattle.std.proofs.Common.{◌≡◌, ◌≢◌, ℕ, zero, suc, ◌+◌, ◌<◌, ◌≤◌, Bool, true, false, not, cond, eqb, ◌&&◌, List, [], ◌∷◌, ◌++◌, length, map, Option, Some, None, is_some, IsSome, option_to_list, count_by, get_or, set, refl, sym, ap, ◌∙◌, inl, inr, subst, arith, add-zero, zero-add}
+use Rattle.std.proofs.Common.{◌≡◌, ◌≢◌, ℕ, zero, suc, ◌+◌, ◌<◌, Bool, true, false, not, cond, eqb, ◌&&◌, List, [], ◌∷◌, ◌++◌, length, map, Option, Some, None, is_some, IsSome, option_to_list, count_by, get_or, set, refl, sym, ap, ◌∙◌, inl, inr, subst, arith, add-zero, zero-add}
 use Rattle.std.specs.Prelude.{filter, find}
 use Rattle.std.proofs.lemmas.Bool.{cond_both, cond-true, cond-false, ne_eqb, eq-eqb, and_left, not_from_true, not_from_false, cases_eq}
-use Rattle.std.proofs.lemmas.List.{get_or_past, get_or-set_same, get_or-set_other}
+use Rattle.std.proofs.lemmas.List.{get_or-set_other}
 use Rattle.std.proofs.lemmas.List.Sums.{sum_by-cons}
 use Rattle.slot_arena.specs.declared.slab_slots.Slot.{Slot}
 use Rattle.slot_arena.specs.declared.handle.Handle.{Handle}
-use Rattle.slot_arena.specs.Slots.{Entry, is_at, is_unheld_at, find_at, Arena}
+use Rattle.slot_arena.specs.Slots.{Entry, is_at, find_at, Arena}
 use Rattle.slot_arena.specs.SlabSlots.{entry, things_from, by_serial, insert_by_serial}
 use Rattle.slot_arena.proofs.Sorting.{BelowSerial, filter-by_serial, map-by_serial, find-filter, first, insert-last, insert-append, BelowSerial-by_serial}
 

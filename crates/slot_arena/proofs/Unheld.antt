@@ -1,6 +1,5 @@
 -- A thing that nothing holds: how a handle finds it, and what is left without it.
-use Rattle.std.proofs.Common.{◌≡◌, ℕ, zero, suc, Bool, true, not, cond, eqb, ◌&&◌, List, Option, Some, None, map, get_or, set, refl, sym, ap, ◌∙◌}
-use Rattle.std.specs.Prelude.{filter, find}
+use Rattle.std.proofs.Common.{◌≡◌, true, cond, eqb, ◌&&◌, List, Option, Some, None, get_or, set, refl, sym, ap, ◌∙◌}
 use Rattle.std.specs.Option.{option_map}
 use Rattle.std.proofs.lemmas.Bool.{ne_eqb, eq-eqb, and_left}
 use Rattle.slot_arena.specs.declared.handle.Handle.{Handle}

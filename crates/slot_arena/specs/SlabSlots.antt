@@ -1,5 +1,5 @@
 -- How slots over a slab are seen: its things, sorted by serial number.
-use Rattle.std.specs.Prelude.{ℕ, ◌≡◌, ◌+◌, ◌≤◌, nat_lt, List, [], ◌∷◌, Option, Some, None, length, count_by, is_some, slice_index_or, if◌then◌else◌}
+use Rattle.std.specs.Prelude.{ℕ, ◌≡◌, ◌+◌, ◌≤◌, nat_lt, List, [], ◌∷◌, Option, Some, None, if◌then◌else◌}
 use Rattle.slab.specs.Slab.{Slab, get, slab_len}
 use Rattle.slot_arena.specs.Slots.{Entry}
 use Rattle.slot_arena.specs.declared.slab_slots.Slot.{Slot}

@@ -1,5 +1,5 @@
 -- What contracts see of counted slots: the things that are alive, by rising serial number.
-use Rattle.std.specs.Prelude.{ℕ, ◌+◌, ◌-◌, Bool, ◌&&◌, nat_eq, List, Option, map, filter, find, not, if◌then◌else◌, refl}
+use Rattle.std.specs.Prelude.{ℕ, Bool, ◌&&◌, nat_eq, List, Option, map, filter, find, not, if◌then◌else◌, refl}
 use Rattle.std.specs.Coded.{Coded, code_by, coded×, coded_ℕ, coded_list}
 use Rattle.std.specs.Option.{option_map}
 use Rattle.slot_arena.specs.declared.handle.Handle.{Handle}

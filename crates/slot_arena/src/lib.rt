@@ -5,6 +5,8 @@ mod handle;
 mod slab_slots;
 mod slots;
 mod steps;
+#[cfg(test)]
+mod tests;
 
 pub use handle::Handle;
 pub use slab_slots::SlabSlots;

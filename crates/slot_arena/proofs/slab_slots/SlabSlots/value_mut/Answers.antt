@@ -1,5 +1,4 @@
-use Rattle.std.proofs.Common.{◌≡◌, Some, ap, sym, ◌∙◌, refl, rules}
-use Rattle.std.specs.Option.{option_map}
+use Rattle.std.proofs.Common.{ap, ◌∙◌, refl, rules}
 use Rattle.slot_arena.proofs.Things.{slot_seen, serial_seen, find_seen, change_seen, same_arena, reads}
 use Rattle.slot_arena.proofs.Sound.{IsSound-write}
 use Rattle.slot_arena.proofs.slab_slots.SlabSlots.value_mut.Goals as goal

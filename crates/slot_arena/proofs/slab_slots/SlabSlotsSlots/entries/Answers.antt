@@ -1,8 +1,8 @@
-use Rattle.std.proofs.Common.{map, List, ap, subst}
+use Rattle.std.proofs.Common.{List, subst}
 use Rattle.std.specs.List.Sorted.{IsPermutation}
 use Rattle.std.proofs.lemmas.List.Sorted.{IsPermutation-map, IsPermutation-sym, IsPermutation-trans}
 use Rattle.slot_arena.specs.declared.handle.Handle.{Handle}
-use Rattle.slot_arena.specs.Slots.{Entry, handle_of}
+use Rattle.slot_arena.specs.Slots.{handle_of}
 use Rattle.slot_arena.specs.SlabSlots.{things_from, by_serial}
 use Rattle.slot_arena.proofs.Listing.{IsPermutation-by_serial}
 use Rattle.slot_arena.proofs.slab_slots.SlabSlotsSlots.entries.Goals as goal

@@ -1,4 +1,4 @@
-use Rattle.std.proofs.Common.{ℕ, ◌<◌, ap, sym, ◌∙◌, arith, refl, [], ◌∷◌, ◌++◌}
+use Rattle.std.proofs.Common.{ap, ◌∙◌, arith, [], ◌∷◌, ◌++◌}
 use Rattle.slot_arena.proofs.Things.{insert-things}
 use Rattle.slot_arena.specs.SlabSlots.{entry}
 use Rattle.slot_arena.proofs.slab_slots.SlabSlotsSlots.insert.Goals as goal

@@ -1,5 +1,5 @@
-use Rattle.std.proofs.Common.{ℕ, ◌+◌, ap, sym, ◌∙◌, refl, rules, arith}
-use Rattle.slot_arena.proofs.Things.{slot_seen, serial_seen, find_seen, change_seen, reads}
+use Rattle.std.proofs.Common.{◌+◌, ap, refl, rules, arith}
+use Rattle.slot_arena.proofs.Things.{slot_seen, serial_seen, change_seen}
 use Rattle.slot_arena.proofs.Sound.{IsSound-write}
 use Rattle.slot_arena.proofs.Counts.{count_seen}
 use Rattle.slot_arena.proofs.slab_slots.SlabSlotsSlots.keep.Goals as goal

@@ -1,4 +1,4 @@
-use Rattle.std.proofs.Common.{◌≡◌, ap, sym, ◌∙◌, rules, Some, None, true, false, eqb, ◌&&◌}
+use Rattle.std.proofs.Common.{◌≡◌, ap, sym, ◌∙◌, rules, Some, eqb}
 use Rattle.std.specs.Option.{option_map, option_copied}
 use Rattle.std.proofs.lemmas.Bool.{eq-eqb, ne_eqb, and_from, and_left, and_right}
 use Rattle.slot_arena.proofs.Unheld.{unheld_seen, take_seen, stay_seen, reads_unheld}
