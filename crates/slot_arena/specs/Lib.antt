@@ -1,0 +1,3 @@
+pub mod SlabLends
+pub mod SlabSlots
+pub mod Slots

@@ -2,5 +2,13 @@
 #![tactic(auto)]
 
 mod handle;
+mod slab_slots;
+mod slots;
+mod steps;
+#[cfg(test)]
+mod tests;
 
 pub use handle::Handle;
+pub use slab_slots::SlabSlots;
+pub use slots::Slots;
+pub use steps::Steps;

@@ -1,0 +1,7 @@
+pub mod Changes
+pub mod GiveUp
+pub mod Next
+pub mod Order
+pub mod Split
+pub mod Taken
+pub mod Turn
