@@ -7,6 +7,8 @@ mod fault;
 mod key;
 mod look;
 mod place;
+#[cfg(test)]
+mod tests;
 
 pub use array::TypedArray;
 pub use dict::OrderedDict;
