@@ -158,13 +158,13 @@ module _ {T : Type 0} where
         up_to = subst (UpTo made) (sym (serials-with_count f things h)) sound.up_to;
         falling = sound.falling;
         unheld = λ other.
-          let more = unheld-more (is_unheld_at other) (is_unheld_at-only other) f h things e s was in
-          let is = ap one (unheld_at-more other h e (f e.count) s.here now) in
-          omega (arith, sound.unheld other, more, is, times-push other waiting h);
+            let more = unheld-more (is_unheld_at other) (is_unheld_at-only other) f h things e s was in
+            let is = ap one (unheld_at-more other h e (f e.count) s.here now) in
+            omega (arith, sound.unheld other, more, is, times-push other waiting h);
         counted =
-          let more = unheld-more has_none has_none-only f h things e s was in
-          let is = ap (λ n. one (eqb n 0)) now in
-          omega (arith, sound.counted, more, is, length-append waiting (h ∷ []));
+            let more = unheld-more has_none has_none-only f h things e s was in
+            let is = ap (λ n. one (eqb n 0)) now in
+            omega (arith, sound.counted, more, is, length-append waiting (h ∷ []));
         room = omega (arith, sound.room, length-with_count f things h);
         more_room = omega (arith, sound.more_room, length-with_count f things h);
       }
@@ -186,11 +186,11 @@ module _ {T : Type 0} where
         up_to = UpTo-push made things e (omega (arith, next)) sound.up_to;
         falling = sound.falling;
         unheld = λ other.
-          let is = ap one (is_unheld_at-only other e held) in
-          omega (arith, sound.unheld other, sum_by_push (λ x. cond (is_unheld_at other x) 1 0) things e, is);
+            let is = ap one (is_unheld_at-only other e held) in
+            omega (arith, sound.unheld other, sum_by_push (λ x. cond (is_unheld_at other x) 1 0) things e, is);
         counted =
-          let is = ap one held in
-          omega (arith, sound.counted, sum_by_push (λ x. cond (has_none x) 1 0) things e, is);
+            let is = ap one held in
+            omega (arith, sound.counted, sum_by_push (λ x. cond (has_none x) 1 0) things e, is);
         room = omega (arith, room, length-append things (e ∷ []));
         more_room = omega (arith, more_room, length-append things (e ∷ []));
       }

@@ -48,22 +48,23 @@ module _ {T : Type 0} where
       cond_both (is_at h x) (Some x) (find_at xs h)
       (λ o. o ≡ Some e → 0 < e.count)
       (λ here is.
-        let same : x ≡ e = cc in
-        let count_is = ap (λ (y : Entry T). y.count) same in
-        let mine = ap one (eq-eqb h.serial x.serial (sym (serial_at h x here))) in
-        omega (arith, enough.0, occurrences-cons x.serial h hs, mine, count_is))
+      let same : x ≡ e = cc in
+      let count_is = ap (λ (y : Entry T). y.count) same in
+      let mine = ap one (eq-eqb h.serial x.serial (sym (serial_at h x here))) in
+      omega (arith, enough.0, occurrences-cons x.serial h hs, mine, count_is))
       (λ other is. positive h hs xs e enough.1 is)
       found
 
   Enough-after : (h : Handle) (hs : List Handle) (es : List (Entry T)) → Enough (h ∷ hs) es → Enough hs (with_count (λ n. n - 1) es h)
   Enough-after h hs [] enough = tt
-  Enough-after h hs (x ∷ xs) enough =
-      (cond_both (is_at h x) (record x { count = x.count - 1 }) x (λ y. occurrences y.serial hs ≤ y.count)
+  Enough-after h hs (x ∷ xs) enough = (
+    cond_both (is_at h x) (record x { count = x.count - 1 }) x (λ y. occurrences y.serial hs ≤ y.count)
         (λ here.
-          let mine = ap one (eq-eqb h.serial x.serial (sym (serial_at h x here))) in
-          omega (arith, enough.0, occurrences-cons x.serial h hs, mine))
+        let mine = ap one (eq-eqb h.serial x.serial (sym (serial_at h x here))) in
+        omega (arith, enough.0, occurrences-cons x.serial h hs, mine))
         (λ _. omega (arith, enough.0, occurrences-cons x.serial h hs)),
-       Enough-after h hs xs enough.1)
+    Enough-after h hs xs enough.1,
+  )
 
   -- another count leaves what a handle finds
   alive-after : (h other : Handle) (es : List (Entry T)) → IsSome (find_at es other) → IsSome (find_at (with_count (λ n. n - 1) es h) other)
@@ -85,13 +86,14 @@ module _ {T : Type 0} where
   can_give_up : (hs : List Handle) (es : List (Entry T)) → AllAlive hs es → Enough hs es → CanGiveUp es hs
   can_give_up [] es alive enough = tt
   can_give_up (h ∷ hs) es alive enough =
-      let e = the_some (find_at es h) alive.0 in
-      (record {
+      let e = the_some (find_at es h) alive.0 in (
+        record {
           count = e.0.count;
           found = ap (option_map (λ (x : Entry T). x.count)) e.1;
           held = positive h hs es e.0 enough e.1;
         },
-        can_give_up hs (with_count (λ n. n - 1) es h) (AllAlive-after h hs es alive.1) (Enough-after h hs es enough))
+        can_give_up hs (with_count (λ n. n - 1) es h) (AllAlive-after h hs es alive.1) (Enough-after h hs es enough),
+      )
 
   Enough-filter : (p : Entry T → Bool) (hs : List Handle) (es : List (Entry T)) → Enough hs es → Enough hs (filter p es)
   Enough-filter p hs [] enough = tt
@@ -126,11 +128,11 @@ module _ {T : Type 0} where
       cond_both (is_at h x) (Some x) (find_at xs h)
       (λ o. o ≡ Some e → Contains (x ∷ xs) e × (e.serial ≡ h.serial))
       (λ here is.
-        let same : x ≡ e = cc in
-        ((0, omega arith, same), ap (λ (y : Entry T). y.serial) (sym same) ∙ serial_at h x here))
+      let same : x ≡ e = cc in
+      ((0, omega arith, same), ap (λ (y : Entry T). y.serial) (sym same) ∙ serial_at h x here))
       (λ other is.
-        let rest = found_Contains h xs e is in
-        ((suc rest.0.0, omega (arith, rest.0.1), rest.0.2), rest.1))
+      let rest = found_Contains h xs e is in
+      ((suc rest.0.0, omega (arith, rest.0.1), rest.0.2), rest.1))
       found
 
   Enough-from : (hs : List Handle) (es : List (Entry T)) → ((e : Entry T) → Contains es e → occurrences e.serial hs ≤ e.count) → Enough hs es
@@ -150,15 +152,15 @@ module _ {T : Type 0} where
       let hs = handles e.value in
       let there = (found_Contains gone es e found).0 in
       let each : (x : Entry T) → Contains es x → occurrences x.serial hs ≤ x.count = λ x in_es.
-          let all = get_or-le-sum_by (λ (y : Entry T). occurrences x.serial (handles y.value)) es there.0 e there.1 in
-          let is = ap (λ (y : Entry T). occurrences x.serial (handles y.value)) there.2 in
-          omega (arith, all, is, counted.enough x in_es) in
+      let all = get_or-le-sum_by (λ (y : Entry T). occurrences x.serial (handles y.value)) es there.0 e there.1 in
+      let is = ap (λ (y : Entry T). occurrences x.serial (handles y.value)) there.2 in
+      omega (arith, all, is, counted.enough x in_es) in
       can_give_up hs (without es gone)
       (AllAlive-from hs es gone (λ h in_hs.
-        let x = the_some (find_at es h) (counted.alive e there h in_hs) in
-        let is = found_Contains h es x.0 x.1 in
-        let serial = ap (λ s. occurrences s hs) is.1 in
-        (x.0, x.1, omega (arith, each x.0 is.0, stands_once hs h in_hs, serial))))
+      let x = the_some (find_at es h) (counted.alive e there h in_hs) in
+      let is = found_Contains h es x.0 x.1 in
+      let serial = ap (λ s. occurrences s hs) is.1 in
+      (x.0, x.1, omega (arith, each x.0 is.0, stands_once hs h in_hs, serial))))
       (Enough-filter (λ x. not (is_unheld_at gone x)) hs es (Enough-from hs es each))
 
   -- a thing that is found has that handle
@@ -168,9 +170,9 @@ module _ {T : Type 0} where
       cond_both (is_at h x) (Some x) (find_at xs h)
       (λ o. o ≡ Some e → handle_of e ≡ h)
       (λ here is.
-        let same : x ≡ e = cc in
-        ap handle_of (sym same)
-        ∙ ap (λ (n : ℕ). record { index = n; serial = x.serial }) (index_at h x here)
-        ∙ ap (λ (n : ℕ). record { index = h.index; serial = n }) (serial_at h x here))
+      let same : x ≡ e = cc in
+      ap handle_of (sym same)
+      ∙ ap (λ (n : ℕ). record { index = n; serial = x.serial }) (index_at h x here)
+      ∙ ap (λ (n : ℕ). record { index = h.index; serial = n }) (serial_at h x here))
       (λ other is. found_is h xs e is)
       found

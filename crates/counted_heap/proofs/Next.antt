@@ -32,9 +32,9 @@ module _ {T : Type 0} where
         serial_is = serial;
         kind_is = kind_is ∙ ap class takes.value_is;
         things_are =
-          ap (λ (v : HeapView T). v.things) ends
-          ∙ ap (λ l. given_up l (handles value)) (takes.things_are ∙ ap (λ l. without l h) things)
-          ∙ ap (λ (x : Handle). given_up (without old.things x) (handles value)) (sym is)
-          ∙ ap (λ (t : T). given_up (without old.things (handle_of takes.thing)) (handles t)) takes.value_is;
+            ap (λ (v : HeapView T). v.things) ends
+            ∙ ap (λ l. given_up l (handles value)) (takes.things_are ∙ ap (λ l. without l h) things)
+            ∙ ap (λ (x : Handle). given_up (without old.things x) (handles value)) (sym is)
+            ∙ ap (λ (t : T). given_up (without old.things (handle_of takes.thing)) (handles t)) takes.value_is;
         made_stays = ap (λ (v : HeapView T). v.made) ends ∙ takes.made_stays ∙ ap (λ (v : HeapView T). v.made) begins;
       }

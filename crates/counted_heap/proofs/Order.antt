@@ -18,9 +18,10 @@ RisesSlowly n (x ∷ xs) = (n ≤ x.serial) × RisesSlowly x.serial xs
 
 slowly_after : (x : Handle) (xs : List Handle) → IsNonDecreasingBy (λ (h : Handle). h.serial) (x ∷ xs) → RisesSlowly x.serial xs
 slowly_after x [] rises = tt
-slowly_after x (y ∷ ys) rises =
-    (rises 0 1 x (omega arith) (omega arith),
-     slowly_after y ys (λ i j d le lt. rises (suc i) (suc j) d (omega (arith, le)) (omega (arith, lt))))
+slowly_after x (y ∷ ys) rises = (
+  rises 0 1 x (omega arith) (omega arith),
+  slowly_after y ys (λ i j d le lt. rises (suc i) (suc j) d (omega (arith, le)) (omega (arith, lt))),
+)
 
 pub slowly : (xs : List Handle) → IsNonDecreasingBy (λ (h : Handle). h.serial) xs → RisesSlowly 0 xs
 slowly [] rises = tt
@@ -89,8 +90,8 @@ module _ {T : Type 0} where
   same_order n m (x ∷ xs) (z ∷ zs) slow rises same =
       let here = first_is x xs z zs slow.1 rises.1 same in
       let rest = same_order x.serial z.serial xs zs slow.1 rises.1 (λ h.
-        let equal = ap one (is_at-same h x z here) in
-        omega (arith, same h, times-cons h x xs, count-cons (is_at h) z zs, equal)) in
+      let equal = ap one (is_at-same h x z here) in
+      omega (arith, same h, times-cons h x xs, count-cons (is_at h) z zs, equal)) in
       ap (λ (s : ℕ). s ∷ map (λ (h : Handle). h.serial) xs) (sym (serial_at x z here)) ∙ ap (λ (l : List ℕ). z.serial ∷ l) rest
 
   pub count-unheld : (h : Handle) (es : List (Entry T)) → count_by (is_unheld_at h) es ≡ count_by (is_at h) (filter has_none es)
@@ -99,11 +100,11 @@ module _ {T : Type 0} where
       cond_both (has_none e) (e ∷ filter has_none es) (filter has_none es)
       (λ l. count_by (is_unheld_at h) (e ∷ es) ≡ count_by (is_at h) l)
       (λ none.
-        let is = ap one (ap (λ b. is_at h e && b) none ∙ and-true (is_at h e)) in
-        omega (arith, count-cons (is_unheld_at h) e es, is, count-cons (is_at h) e (filter has_none es), count-unheld h es))
+      let is = ap one (ap (λ b. is_at h e && b) none ∙ and-true (is_at h e)) in
+      omega (arith, count-cons (is_unheld_at h) e es, is, count-cons (is_at h) e (filter has_none es), count-unheld h es))
       (λ held.
-        let is = ap one (and_right (is_at h e) _ held) in
-        omega (arith, count-cons (is_unheld_at h) e es, is, count-unheld h es))
+      let is = ap one (and_right (is_at h e) _ held) in
+      omega (arith, count-cons (is_unheld_at h) e es, is, count-unheld h es))
     where
       and-true : (b : Bool) → (b && true) ≡ b
       and-true true = refl

@@ -27,9 +27,10 @@ module _ {T : Type 0} where
 
   pub later_none : (h : Handle) (n : ℕ) (xs : List (Entry T)) → h.serial ≤ n → RisesFrom n (serials xs) → NoneAt h xs
   later_none h n [] le rises = tt
-  later_none h n (x ∷ xs) le rises =
-      (and_right (eqb x.index h.index) _ (ne_eqb x.serial h.serial (λ same. omega (arith, same, rises.0))),
-       later_none h x.serial xs (omega (arith, rises.0)) rises.1)
+  later_none h n (x ∷ xs) le rises = (
+    and_right (eqb x.index h.index) _ (ne_eqb x.serial h.serial (λ same. omega (arith, same, rises.0))),
+    later_none h x.serial xs (omega (arith, rises.0)) rises.1,
+  )
 
   pub serial_at : (h : Handle) (e : Entry T) → is_at h e ≡ true → e.serial ≡ h.serial
   serial_at h e here = eqb-true e.serial h.serial (and_parts (eqb e.index h.index) _ here).1
@@ -43,25 +44,25 @@ module _ {T : Type 0} where
       cond_both (is_at h x) (Some x) (find_at xs h)
       (λ o. o ≡ Some e → SplitAt h (x ∷ xs) e)
       (λ here is.
-        let same : x ≡ e = cc in
-        record {
-          front = [];
-          back = xs;
-          whole = ap (λ y. y ∷ xs) same;
-          here = ap (is_at h) (sym same) ∙ here;
-          before = tt;
-          after = later_none h x.serial xs (omega (arith, serial_at h x here)) rises.1;
-        })
+      let same : x ≡ e = cc in
+      record {
+        front = [];
+        back = xs;
+        whole = ap (λ y. y ∷ xs) same;
+        here = ap (is_at h) (sym same) ∙ here;
+        before = tt;
+        after = later_none h x.serial xs (omega (arith, serial_at h x here)) rises.1;
+      })
       (λ other is.
-        let rest = split h x.serial xs e rises.1 is in
-        record {
-          front = x ∷ rest.front;
-          back = rest.back;
-          whole = ap (λ l. x ∷ l) rest.whole;
-          here = rest.here;
-          before = (other, rest.before);
-          after = rest.after;
-        })
+      let rest = split h x.serial xs e rises.1 is in
+      record {
+        front = x ∷ rest.front;
+        back = rest.back;
+        whole = ap (λ l. x ∷ l) rest.whole;
+        here = rest.here;
+        before = (other, rest.before);
+        after = rest.after;
+      })
       found
 
   map-append' : (f : Entry T → Entry T) (xs ys : List (Entry T)) → map f (xs ++ ys) ≡ map f xs ++ map f ys
@@ -95,8 +96,8 @@ module _ {T : Type 0} where
       ∙ map-append' (λ x. cond (is_at h x) (record x { count = f x.count }) x) s.front (e ∷ s.back)
       ∙ ap (λ l. l ++ with_count f (e ∷ s.back) h) (with_count-none f h s.front s.before)
       ∙ ap (λ l. s.front ++ l)
-        (ap (λ x. x ∷ with_count f s.back h) (cond-true (is_at h e) (record e { count = f e.count }) e s.here)
-          ∙ ap (λ l. record e { count = f e.count } ∷ l) (with_count-none f h s.back s.after))
+      (ap (λ x. x ∷ with_count f s.back h) (cond-true (is_at h e) (record e { count = f e.count }) e s.here)
+      ∙ ap (λ l. record e { count = f e.count } ∷ l) (with_count-none f h s.back s.after))
 
   -- the others, where nothing holds it
   pub without-split : (h : Handle) (es : List (Entry T)) (e : Entry T) (s : SplitAt h es e) → e.count ≡ 0 → without es h ≡ s.front ++ s.back
@@ -107,7 +108,7 @@ module _ {T : Type 0} where
       ∙ filter-append' test s.front (e ∷ s.back)
       ∙ ap (λ l. l ++ filter test (e ∷ s.back)) (without-none h s.front s.before)
       ∙ ap (λ l. s.front ++ l)
-        (cond-false _ _ _ (not_from_true _ gone) ∙ without-none h s.back s.after)
+      (cond-false _ _ _ (not_from_true _ gone) ∙ without-none h s.back s.after)
 
   -- a count over a list in three parts
   pub count-middle : (p : Entry T → Bool) (front : List (Entry T)) (e : Entry T) (back : List (Entry T)) → count_by p (front ++ e ∷ back) ≡ count_by p front + (cond (p e) 1 0 + count_by p back)

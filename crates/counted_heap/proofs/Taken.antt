@@ -75,13 +75,13 @@ module _ {T : Type 0} where
         up_to = UpTo-filter test made things sound.up_to;
         falling = λ i j d i_le j_lt. falling (suc i) (suc j) d (omega (arith, i_le)) (omega (arith, j_lt));
         unheld = λ other.
-          let stands = ap (times other) is in
-          let same = ap one (unheld_at-more other h e e.count s.here none) in
-          omega (arith, sound.unheld other, stands, times-push other rest h, unheld-less (is_unheld_at other) h things e s none, same);
+            let stands = ap (times other) is in
+            let same = ap one (unheld_at-more other h e e.count s.here none) in
+            omega (arith, sound.unheld other, stands, times-push other rest h, unheld-less (is_unheld_at other) h things e s none, same);
         counted =
-          let long = ap length is in
-          let own = ap (λ n. one (eqb n 0)) none in
-          omega (arith, sound.counted, long, length-append rest (h ∷ []), unheld-less has_none h things e s none, own);
+            let long = ap length is in
+            let own = ap (λ n. one (eqb n 0)) none in
+            omega (arith, sound.counted, long, length-append rest (h ∷ []), unheld-less has_none h things e s none, own);
         room = omega (arith, sound.room, le, length-filter_le test things);
         more_room = omega (arith, sound.more_room, length-filter_le test things);
       }

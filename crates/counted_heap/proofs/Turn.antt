@@ -43,5 +43,5 @@ module _ {T : Type 0} where
       (slowly (reverse sorted) falling)
       (RisesFrom-filter has_none 0 things sound.rising)
       (λ h.
-        let none = ap (times h) empty in
-        omega (arith, times-IsPermutation h sorted (reverse sorted) (IsPermutation-reverse sorted), times-IsPermutation h waiting sorted moved, sound.unheld h, none, count-unheld h things))
+      let none = ap (times h) empty in
+      omega (arith, times-IsPermutation h sorted (reverse sorted) (IsPermutation-reverse sorted), times-IsPermutation h waiting sorted moved, sound.unheld h, none, count-unheld h things))

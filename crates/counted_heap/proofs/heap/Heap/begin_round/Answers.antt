@@ -11,7 +11,7 @@ invariant_of-self g c =
     let none : length c.self.inside.round.items ≡ 0 = search rules in
     let moved = subst (λ (v : _). IsPermutation v.items c.sort_falling.new.handles.items) c.swap.ensures.x_after c.sort_falling.ensures.all in
     rw (c.swap.ensures.y_after, c.sort_falling.ensures.capacity, c.swap.ensures.x_after)
-      (sound_turned c.self.invariant (nothing _ none) c.sort_falling.new.handles.items moved c.sort_falling.ensures.falling)
+    (sound_turned c.self.invariant (nothing _ none) c.sort_falling.new.handles.items moved c.sort_falling.ensures.falling)
 
 pub returns-then-is_empty : goal.returns-then-is_empty
 returns-then-is_empty g c =
@@ -21,6 +21,6 @@ returns-then-is_empty g c =
     same_heap _ _
     (ap (λ v. v.things) c.self.view_is)
     (turned
-      ∙ ap (λ (l : List Handle). round_after (g.S.Slots.things c.self.inside.slots) (map (λ (h : Handle). h.serial) (reverse l))) (sym (nothing _ none))
-      ∙ ap current_round c.self.view_is)
+    ∙ ap (λ (l : List Handle). round_after (g.S.Slots.things c.self.inside.slots) (map (λ (h : Handle). h.serial) (reverse l))) (sym (nothing _ none))
+    ∙ ap current_round c.self.view_is)
     (ap (λ v. v.made) c.self.view_is)

@@ -13,10 +13,10 @@ pub invariant_of-self : goal.invariant_of-self
 invariant_of-self g c =
     let found = found_from_count (g.S.Slots.things c.self.inside.slots) c.args.h _ c.drop_one.ensures.left in
     rw (c.drop_one.ensures.things, c.drop_one.ensures.last, c.push_reserved.ensures.items, c.push_reserved.ensures.capacity)
-      (sound_freed c.self.invariant (λ n. n - 1) c.args.h found.0 found.1 (omega (arith, found.2)) (omega (arith, found.2, c.if-drop_one-eq0.true)))
+    (sound_freed c.self.invariant (λ n. n - 1) c.args.h found.0 found.1 (omega (arith, found.2)) (omega (arith, found.2, c.if-drop_one-eq0.true)))
 
 pub invariant_of-self-else-drop_one-eq0 : goal.invariant_of-self-else-drop_one-eq0
 invariant_of-self-else-drop_one-eq0 g c =
     let found = found_from_count (g.S.Slots.things c.self.inside.slots) c.args.h _ c.drop_one.ensures.left in
     rw (c.drop_one.ensures.things, c.drop_one.ensures.last)
-      (sound_changed c.self.invariant (λ n. n - 1) c.args.h found.0 found.1 (omega (arith, found.2)) (omega (arith, found.2, c.if-drop_one-eq0.false)))
+    (sound_changed c.self.invariant (λ n. n - 1) c.args.h found.0 found.1 (omega (arith, found.2)) (omega (arith, found.2, c.if-drop_one-eq0.false)))

@@ -6,15 +6,15 @@ use Rattle.counted_heap.proofs.heap.Heap.make.Goals as goal
 pub invariant_of-self-in_err-make_room : goal.invariant_of-self-in_err-make_room
 invariant_of-self-in_err-make_room g c =
     rw (c.reserve.ensures.things, c.reserve.ensures.last, c.make_room.ensures.items)
-      (sound_roomy c.self.invariant _ _ c.make_room.ensures.capacity (omega arith))
+    (sound_roomy c.self.invariant _ _ c.make_room.ensures.capacity (omega arith))
 
 pub invariant_of-self-in_err-make_room-2 : goal.invariant_of-self-in_err-make_room-2
 invariant_of-self-in_err-make_room-2 g c =
     rw (c.reserve.ensures.things, c.reserve.ensures.last, c.make_room.ensures.items, c.make_room-2.ensures.items)
-      (sound_roomy c.self.invariant _ _ c.make_room.ensures.capacity c.make_room-2.ensures.capacity)
+    (sound_roomy c.self.invariant _ _ c.make_room.ensures.capacity c.make_room-2.ensures.capacity)
 
 pub invariant_of-self-2 : goal.invariant_of-self-2
 invariant_of-self-2 g c =
     let e : Entry g.row.T.Denot = record { index = c.insert.result.index; serial = c.self.inside.made + 1; count = 1; value = c.args.t } in
     rw (c.insert.ensures.things, c.insert.ensures.last, c.reserve.ensures.things, c.make_room.ensures.items, c.make_room-2.ensures.items)
-      (sound_made c.self.invariant e refl (omega (arith, c.if-self-ge-MAX_MADE.false)) refl _ _ (omega (arith, c.in_ok-make_room.ensures.room, c.len-alive.ensures)) (omega (arith, c.in_ok-make_room-2.ensures.room, c.len-alive.ensures)))
+    (sound_made c.self.invariant e refl (omega (arith, c.if-self-ge-MAX_MADE.false)) refl _ _ (omega (arith, c.in_ok-make_room.ensures.room, c.len-alive.ensures)) (omega (arith, c.in_ok-make_room-2.ensures.room, c.len-alive.ensures)))

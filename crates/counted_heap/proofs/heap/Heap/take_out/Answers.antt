@@ -11,7 +11,7 @@ pub invariant_of-self-2 : goal.invariant_of-self-2
 invariant_of-self-2 g c =
     let first = first_unheld c.self.invariant c.pop.new.self.items c.in_ok-h.h c.in_ok-h.ensures.items in
     rw (c.take.ensures.things, c.take.ensures.last)
-      (sound_taken c.self.invariant c.pop.new.self.items c.in_ok-h.h first.0 c.in_ok-h.ensures.items first.1 first.2 _ (omega (arith, c.in_ok-h.ensures.capacity)))
+    (sound_taken c.self.invariant c.pop.new.self.items c.in_ok-h.h first.0 c.in_ok-h.ensures.items first.1 first.2 _ (omega (arith, c.in_ok-h.ensures.capacity)))
 
 pub returns-clause-some : goal.returns-clause-some
 returns-clause-some g c =
