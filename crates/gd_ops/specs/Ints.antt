@@ -1,5 +1,5 @@
 -- What the operators give on ints.
-use Rattle.std.specs.Prelude.{ℕ, suc, ◌%◌, ℤ, pos, negsuc, Bool, not, ◌==◌, nat_le, Result, Ok, Err, if◌then◌else◌, int_lt, int_le, int_rem}
+use Rattle.std.specs.Prelude.{ℕ, suc, ◌%◌, ℤ, pos, negsuc, Bool, not, ◌==◌, nat_le, List, Option, None, Some, Result, Ok, Err, if◌then◌else◌, int_lt, int_le, int_rem}
 use Rattle.std.specs.Ordering.{int_eq}
 use Rattle.std.specs.Int.{w64, int_wrapping_add, int_wrapping_sub, int_wrapping_mul, int_wrapping_div, int_wrapping_neg, int_wrapping_pow, int_shl, int_shr, int_bit_and, int_bit_or, int_bit_xor}
 use Rattle.gd_syntax.specs.declared.operator.Operator.{Operator}
@@ -7,7 +7,7 @@ use Rattle.gd_syntax.specs.declared.operator.Operator.TheVariants.{Power, Multip
 use Rattle.gd_model.specs.declared.fault.RunFault.{RunFault}
 use Rattle.gd_model.specs.declared.fault.RunFault.TheVariants.{ZeroDivisorOrStep, BadOperands, BadShift}
 use Rattle.gd_model.specs.declared.value.Value.{Value}
-use Rattle.gd_model.specs.declared.value.Value.TheVariants.{Bool as BoolValue, Int}
+use Rattle.gd_model.specs.declared.value.Value.TheVariants.{Bool as BoolValue, Int, Str}
 use Rattle.gd_containers.specs.declared.fault.ThingFault.{ThingFault}
 use Rattle.gd_containers.specs.declared.fault.ThingFault.TheVariants.{Run}
 use Rattle.gd_ops.specs.declared.fresh.Fresh.{Fresh}
@@ -70,3 +70,13 @@ int_gives Negate x = Ok (Int (int_wrapping_neg w64 x))
 int_gives Plus x = Ok (Int x)
 int_gives Complement x = Ok (Int (int_bit_xor w64 x (negsuc 0)))
 int_gives _ x = Err BadOperands
+
+-- the two ints that the operands are
+abbrev pub two_ints : Value → Value → Option (ℤ × ℤ)
+two_ints (Int x) (Int y) = Some (x, y)
+two_ints _ _ = None
+
+-- the two Strings that the operands are
+abbrev pub two_texts : Value → Value → Option (List ℕ × List ℕ)
+two_texts (Str x) (Str y) = Some (x, y)
+two_texts _ _ = None

@@ -1,5 +1,7 @@
 //! The operators on values.
-ghost use Rattle.std.specs.Prelude.{◌≡◌, Some, None};
+ghost use Rattle.std.specs.Prelude.{◌≡◌, IfSome};
+ghost use Rattle.gd_ops.specs.Ints as spec;
+ghost use Rattle.gd_ops.specs.Texts.{TextsGive};
 
 use crate::equality::{not_there, same};
 use crate::fresh::{Fresh, boolean, refused};
@@ -22,7 +24,10 @@ pub fn apply<K: Look>(
     a: &Value,
     b: &Value,
     look: &K,
-) -> Result<Fresh, ThingFault> {
+) -> Result<Fresh, ThingFault>
+    ensures ints { IfSome (spec.two_ints a.now b.now) (λ p. result ≡ spec.answer (spec.ints_give op p.0 p.1)) }
+    ensures texts { IfSome (spec.two_texts a.now b.now) (λ p. TextsGive op p.0 p.1 result) }
+{
     match (a, b) {
         (Value::Int(x), Value::Int(y)) => apply_ints(op, *x, *y),
         (Value::Str(x), Value::Str(y)) => apply_texts(alloc, op, x, y),

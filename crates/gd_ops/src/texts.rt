@@ -1,4 +1,8 @@
 //! The operators on Strings.
+ghost use Rattle.gd_ops.specs.Texts.{TextsGive, GivesString, text_fault};
+ghost use Rattle.gd_text.specs.Text.{Gives};
+ghost use Rattle.std.specs.Prelude.{◌≡◌, List, ℕ, Option};
+
 use crate::fresh::{Fresh, boolean, refused};
 use gd_containers::ThingFault;
 use gd_model::{RunFault, Value};
@@ -8,7 +12,9 @@ use std::alloc::Global;
 use std::cmp::Ordering;
 
 /// The refusal that a fault of a text call is.
-pub fn text_refusal(fault: TextFault) -> ThingFault {
+pub fn text_refusal(fault: TextFault) -> ThingFault
+    ensures { result ≡ text_fault fault }
+{
     match fault {
         TextFault::TooLong => ThingFault::Run(RunFault::TooLong),
         TextFault::OutOfRange => ThingFault::Run(RunFault::OutOfRange),
@@ -17,7 +23,9 @@ pub fn text_refusal(fault: TextFault) -> ThingFault {
 }
 
 /// The text as what a call gives.
-pub fn text(made: Result<Text, TextFault>) -> Result<Fresh, ThingFault> {
+pub fn text(made: Result<Text, TextFault>) -> Result<Fresh, ThingFault>
+    ensures { (want : Option (List ℕ)) → Gives want made → GivesString want result }
+{
     match made {
         Ok(text) => Ok(Fresh::Value(Value::Str(text))),
         Err(fault) => Err(text_refusal(fault)),
@@ -35,7 +43,9 @@ pub fn formatted(alloc: Global, pattern: &Text, args: &[Arg]) -> Result<Fresh, T
 }
 
 /// An operator between two Strings.
-pub fn apply_texts(alloc: Global, op: Operator, x: &Text, y: &Text) -> Result<Fresh, ThingFault> {
+pub fn apply_texts(alloc: Global, op: Operator, x: &Text, y: &Text) -> Result<Fresh, ThingFault>
+    ensures { TextsGive op x.now y.now result }
+{
     match op {
         Operator::Add => text(concat(alloc, x, y)),
         Operator::Remainder => formatted(alloc, x, &[Arg::Str(y.share()?)]),
