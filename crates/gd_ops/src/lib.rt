@@ -1,0 +1,21 @@
+//! Operators, builtins and printed forms (docs/runtime.md).
+#![tactic(auto)]
+
+mod builtin;
+mod equality;
+mod fresh;
+mod ints;
+mod kind;
+mod methods;
+mod operators;
+mod print;
+mod rows;
+mod texts;
+
+pub use builtin::{Builtin, call_builtin};
+pub use equality::{is_same, same};
+pub use fresh::Fresh;
+pub use kind::{Kind, kind_of, kind_of_type};
+pub use operators::{apply, truth};
+pub use print::text_of;
+pub use rows::{Given, Row, result_type, row_of, takes};

@@ -1,0 +1,306 @@
+//! The methods of Strings, Arrays and Dictionaries that do not write.
+use crate::builtin::Builtin;
+use crate::equality::{not_there, same};
+use crate::fresh::{Fresh, boolean, int, refused};
+use crate::operators::first_place;
+use crate::print::joined_by;
+use crate::texts::{text, text_refusal};
+use gd_containers::{Look, OrderedDict, ThingFault, TypedArray, key_of};
+use gd_model::{Key, RunFault, Ty, Value};
+use gd_syntax::Text;
+use gd_text::{find, is_valid_int, left, repeat, replace, right, split, strip, substr, to_int};
+use std::alloc::Global;
+
+/// A method, its receiver being the first argument.
+pub fn call_method<K: Look>(
+    alloc: Global,
+    method: Builtin,
+    args: &[Value],
+    look: &K,
+) -> Result<Fresh, ThingFault> {
+    match args {
+        [Value::Str(receiver), rest @ ..] => on_text(alloc, method, receiver, rest, look),
+        [Value::Array(h), rest @ ..] => match look.array(*h) {
+            Some(receiver) => on_array(alloc, method, receiver, rest, look),
+            None => Err(not_there()),
+        },
+        [Value::Dict(h), rest @ ..] => match look.dict(*h) {
+            Some(receiver) => on_dict(alloc, method, receiver, rest, look),
+            None => Err(not_there()),
+        },
+        _ => refused(RunFault::WrongNumberOfArguments),
+    }
+}
+
+/// The refusal of arguments that fit no form of a method: their number, or else the kind of one.
+fn misfit(args: &[Value], least: usize, most: usize) -> Result<Fresh, ThingFault> {
+    if args.len() < least || args.len() > most {
+        refused(RunFault::WrongNumberOfArguments)
+    } else {
+        refused(RunFault::ValueOfAnotherType)
+    }
+}
+
+fn on_text<K: Look>(
+    alloc: Global,
+    method: Builtin,
+    a: &Text,
+    args: &[Value],
+    look: &K,
+) -> Result<Fresh, ThingFault> {
+    match (method, args) {
+        (Builtin::StringLength, []) => int(i64::from(a.length())),
+        (Builtin::StringIsEmpty, []) => boolean(a.length() == 0),
+        (Builtin::StringIsValidInt, []) => boolean(is_valid_int(a)),
+        (Builtin::StringToInt, []) => int(to_int(a)),
+        (Builtin::StringStripEdges, []) => text(strip(alloc, a)),
+        (Builtin::StringLeft, [Value::Int(n)]) => text(left(alloc, a, *n)),
+        (Builtin::StringRight, [Value::Int(n)]) => text(right(alloc, a, *n)),
+        (Builtin::StringRepeat, [Value::Int(n)]) => text(repeat(alloc, a, *n)),
+        (Builtin::StringSubstr, [Value::Int(from)]) => text(substr(alloc, a, *from, -1)),
+        (Builtin::StringSubstr, [Value::Int(from), Value::Int(len)]) => {
+            text(substr(alloc, a, *from, *len))
+        }
+        (Builtin::StringUnicodeAt, [Value::Int(i)]) => unicode_at(a, *i),
+        (Builtin::StringJoin, [Value::Array(h)]) => match look.array(*h) {
+            Some(parts) => joined_by(alloc, parts.items(), a, look),
+            None => Err(not_there()),
+        },
+        (Builtin::StringLength, _)
+        | (Builtin::StringIsEmpty, _)
+        | (Builtin::StringIsValidInt, _)
+        | (Builtin::StringToInt, _)
+        | (Builtin::StringStripEdges, _) => misfit(args, 0, 0),
+        (Builtin::StringLeft, _)
+        | (Builtin::StringRight, _)
+        | (Builtin::StringRepeat, _)
+        | (Builtin::StringUnicodeAt, _)
+        | (Builtin::StringJoin, _) => misfit(args, 1, 1),
+        (Builtin::StringSubstr, _) => misfit(args, 1, 2),
+        _ => in_text(alloc, method, a, args),
+    }
+}
+
+/// The methods of a String that take Strings.
+fn in_text(alloc: Global, method: Builtin, a: &Text, args: &[Value]) -> Result<Fresh, ThingFault> {
+    match (method, args) {
+        (Builtin::StringFind, [Value::Str(what)]) => found(find(a, what, 0)),
+        (Builtin::StringFind, [Value::Str(what), Value::Int(from)]) => found(find(a, what, *from)),
+        (Builtin::StringContains, [Value::Str(what)]) => boolean(find(a, what, 0).is_some()),
+        (Builtin::StringBeginsWith, [Value::Str(s)]) => {
+            boolean(a.chars().starts_with(s.chars()))
+        }
+        (Builtin::StringEndsWith, [Value::Str(s)]) => boolean(a.chars().ends_with(s.chars())),
+        (Builtin::StringReplace, [Value::Str(what), Value::Str(with)]) => {
+            text(replace(alloc, a, what, with))
+        }
+        (Builtin::StringSplit, []) => characters(alloc, a),
+        (Builtin::StringSplit, [Value::Str(by)]) => parts(alloc, a, by, true),
+        (Builtin::StringSplit, [Value::Str(by), Value::Bool(empty)]) => {
+            parts(alloc, a, by, *empty)
+        }
+        (Builtin::StringFind, _) => misfit(args, 1, 2),
+        (Builtin::StringReplace, _) => misfit(args, 2, 2),
+        (Builtin::StringSplit, _) => misfit(args, 0, 2),
+        (Builtin::StringContains, _)
+        | (Builtin::StringBeginsWith, _)
+        | (Builtin::StringEndsWith, _) => misfit(args, 1, 1),
+        _ => refused(RunFault::NoSuchMethod),
+    }
+}
+
+fn found(at: Option<u32>) -> Result<Fresh, ThingFault> {
+    match at {
+        Some(i) => int(i64::from(i)),
+        None => int(-1),
+    }
+}
+
+fn unicode_at(a: &Text, i: i64) -> Result<Fresh, ThingFault> {
+    if i < 0 || i >= i64::from(a.length()) {
+        return refused(RunFault::OutOfRange);
+    }
+    match a.at(i as u32) {
+        Some(c) => int(i64::from(c)),
+        None => refused(RunFault::OutOfRange),
+    }
+}
+
+fn on_array<K: Look>(
+    alloc: Global,
+    method: Builtin,
+    a: &TypedArray,
+    args: &[Value],
+    look: &K,
+) -> Result<Fresh, ThingFault> {
+    match (method, args) {
+        (Builtin::ArraySize, []) => int(i64::from(a.size())),
+        (Builtin::ArrayIsEmpty, []) => boolean(a.size() == 0),
+        (Builtin::ArrayIsReadOnly, []) => boolean(a.fixed()),
+        (Builtin::ArrayFront, []) => item_or_null(a, 0),
+        (Builtin::ArrayBack, []) => item_or_null(a, -1),
+        (Builtin::ArrayDuplicate, []) => slice(alloc, a, 0, i64::MAX),
+        (Builtin::ArraySlice, [Value::Int(from)]) => slice(alloc, a, *from, 2_147_483_647),
+        (Builtin::ArraySlice, [Value::Int(from), Value::Int(to)]) => slice(alloc, a, *from, *to),
+        (Builtin::ArrayHas, [v]) => boolean(first_place(a, v, 0, look)?.is_some()),
+        (Builtin::ArrayCount, [v]) => count(a, v, look),
+        (Builtin::ArrayFind, [v]) => place(a, v, 0, look),
+        (Builtin::ArrayFind, [v, Value::Int(from)]) => place(a, v, *from, look),
+        (Builtin::ArraySize, _)
+        | (Builtin::ArrayIsEmpty, _)
+        | (Builtin::ArrayIsReadOnly, _)
+        | (Builtin::ArrayFront, _)
+        | (Builtin::ArrayBack, _)
+        | (Builtin::ArrayDuplicate, _) => misfit(args, 0, 0),
+        (Builtin::ArraySlice, _) | (Builtin::ArrayFind, _) => misfit(args, 1, 2),
+        (Builtin::ArrayHas, _) | (Builtin::ArrayCount, _) => misfit(args, 1, 1),
+        _ => refused(RunFault::NoSuchMethod),
+    }
+}
+
+fn item_or_null(a: &TypedArray, at: i64) -> Result<Fresh, ThingFault> {
+    match a.get(at) {
+        Ok(v) => Ok(Fresh::Value(v.share()?)),
+        Err(_) => Ok(Fresh::Value(Value::Nil)),
+    }
+}
+
+fn slice(alloc: Global, a: &TypedArray, from: i64, to: i64) -> Result<Fresh, ThingFault> {
+    Ok(Fresh::Array(a.slice(alloc, from, to)?))
+}
+
+fn place<K: Look>(a: &TypedArray, v: &Value, from: i64, look: &K) -> Result<Fresh, ThingFault> {
+    if from < 0 {
+        return int(-1);
+    }
+    found(first_place(a, v, from, look)?)
+}
+
+fn count<K: Look>(a: &TypedArray, v: &Value, look: &K) -> Result<Fresh, ThingFault> {
+    let mut all = 0i64;
+    for item in a.items() {
+        if same(item, v, look)? {
+            all = all.saturating_add(1);
+        }
+    }
+    int(all)
+}
+
+fn on_dict<K: Look>(
+    alloc: Global,
+    method: Builtin,
+    d: &OrderedDict,
+    args: &[Value],
+    look: &K,
+) -> Result<Fresh, ThingFault> {
+    match (method, args) {
+        (Builtin::DictionarySize, []) => int(i64::from(d.size())),
+        (Builtin::DictionaryIsEmpty, []) => boolean(d.size() == 0),
+        (Builtin::DictionaryIsReadOnly, []) => boolean(d.fixed()),
+        (Builtin::DictionaryKeys, []) => keys(alloc, d),
+        (Builtin::DictionaryValues, []) => values(alloc, d),
+        (Builtin::DictionaryDuplicate, []) => duplicate(alloc, d),
+        (Builtin::DictionaryHas, [k]) => boolean(d.get(&key_of(k)?).is_some()),
+        (Builtin::DictionaryGet, [k]) => value_or(d, k, &Value::Nil),
+        (Builtin::DictionaryGet, [k, default]) => value_or(d, k, default),
+        (Builtin::DictionaryFindKey, [v]) => find_key(d, v, look),
+        (Builtin::DictionarySize, _)
+        | (Builtin::DictionaryIsEmpty, _)
+        | (Builtin::DictionaryIsReadOnly, _)
+        | (Builtin::DictionaryKeys, _)
+        | (Builtin::DictionaryValues, _)
+        | (Builtin::DictionaryDuplicate, _) => misfit(args, 0, 0),
+        (Builtin::DictionaryHas, _) | (Builtin::DictionaryFindKey, _) => misfit(args, 1, 1),
+        (Builtin::DictionaryGet, _) => misfit(args, 1, 2),
+        _ => refused(RunFault::NoSuchMethod),
+    }
+}
+
+fn value_or(d: &OrderedDict, k: &Value, default: &Value) -> Result<Fresh, ThingFault> {
+    match d.get(&key_of(k)?) {
+        Some(v) => Ok(Fresh::Value(v.share()?)),
+        None => Ok(Fresh::Value(default.share()?)),
+    }
+}
+
+/// The value that a key is.
+fn value_of(key: &Key) -> Result<Value, ThingFault> {
+    match key {
+        Key::Nil => Ok(Value::Nil),
+        Key::Bool(b) => Ok(Value::Bool(*b)),
+        Key::Int(n) => Ok(Value::Int(*n)),
+        Key::Str(text) => Ok(Value::Str(text.share()?)),
+        Key::Object(h) => Ok(Value::Object(*h)),
+    }
+}
+
+fn keys(alloc: Global, d: &OrderedDict) -> Result<Fresh, ThingFault> {
+    let mut all = TypedArray::new(alloc, Ty::Variant, false);
+    for i in 0..d.size() {
+        let Some((key, _)) = d.at(i) else {
+            return Err(not_there());
+        };
+        all.push(value_of(key)?, true)?;
+    }
+    Ok(Fresh::Array(all))
+}
+
+fn values(alloc: Global, d: &OrderedDict) -> Result<Fresh, ThingFault> {
+    let mut all = TypedArray::new(alloc, Ty::Variant, false);
+    for i in 0..d.size() {
+        let Some((_, value)) = d.at(i) else {
+            return Err(not_there());
+        };
+        all.push(value.share()?, true)?;
+    }
+    Ok(Fresh::Array(all))
+}
+
+fn duplicate(alloc: Global, d: &OrderedDict) -> Result<Fresh, ThingFault> {
+    let key = d.key_type().copy(alloc)?;
+    let value = d.value_type().copy(alloc)?;
+    let mut all = OrderedDict::of(alloc, false, key, value);
+    for i in 0..d.size() {
+        let Some((key, value)) = d.at(i) else {
+            return Err(not_there());
+        };
+        all.put(key.share()?, value.share()?, true)?;
+    }
+    Ok(Fresh::Dict(all))
+}
+
+fn find_key<K: Look>(d: &OrderedDict, v: &Value, look: &K) -> Result<Fresh, ThingFault> {
+    for i in 0..d.size() {
+        let Some((key, value)) = d.at(i) else {
+            return Err(not_there());
+        };
+        if same(value, v, look)? {
+            return Ok(Fresh::Value(value_of(key)?));
+        }
+    }
+    Ok(Fresh::Value(Value::Nil))
+}
+
+/// The characters of the text as an array of Strings.
+fn characters(alloc: Global, a: &Text) -> Result<Fresh, ThingFault> {
+    match Text::of(Vec::new(alloc)) {
+        Ok(nothing) => parts(alloc, a, &nothing, true),
+        Err(fault) => Err(text_refusal(fault)),
+    }
+}
+
+/// The parts of the text as an array of Strings.
+fn parts(alloc: Global, a: &Text, by: &Text, empty: bool) -> Result<Fresh, ThingFault> {
+    match split(alloc, a, by, empty) {
+        Ok(texts) => strings(alloc, texts),
+        Err(fault) => Err(text_refusal(fault)),
+    }
+}
+
+fn strings(alloc: Global, texts: Vec<Text>) -> Result<Fresh, ThingFault> {
+    let mut all = TypedArray::new(alloc, Ty::Str, false);
+    for text in texts {
+        all.push(Value::Str(text), true)?;
+    }
+    Ok(Fresh::Array(all))
+}

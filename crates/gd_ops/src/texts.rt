@@ -1,0 +1,62 @@
+//! The operators on Strings.
+ghost use Rattle.gd_ops.specs.Texts.{TextsGive, GivesString, text_fault};
+ghost use Rattle.gd_text.specs.Text.{Gives};
+ghost use Rattle.std.specs.Prelude.{◌≡◌, List, ℕ, Option};
+
+use crate::fresh::{Fresh, boolean, refused};
+use gd_containers::ThingFault;
+use gd_model::{RunFault, Value};
+use gd_syntax::{Operator, Text, TextFault};
+use gd_text::{Arg, FormatFault, concat, find, format};
+use std::alloc::Global;
+use std::cmp::Ordering;
+
+/// The refusal that a fault of a text call is.
+pub fn text_refusal(fault: TextFault) -> ThingFault
+    ensures { result ≡ text_fault fault }
+{
+    match fault {
+        TextFault::TooLong => ThingFault::Run(RunFault::TooLong),
+        TextFault::OutOfRange => ThingFault::Run(RunFault::OutOfRange),
+        TextFault::NotUtf8 | TextFault::NoMemory => ThingFault::NoMemory,
+    }
+}
+
+/// The text as what a call gives.
+pub fn text(made: Result<Text, TextFault>) -> Result<Fresh, ThingFault>
+    ensures { (want : Option (List ℕ)) → Gives want made → GivesString want result }
+{
+    match made {
+        Ok(text) => Ok(Fresh::Value(Value::Str(text))),
+        Err(fault) => Err(text_refusal(fault)),
+    }
+}
+
+/// The text that a pattern gives.
+pub fn formatted(alloc: Global, pattern: &Text, args: &[Arg]) -> Result<Fresh, ThingFault> {
+    match format(alloc, pattern, args) {
+        Ok(text) => Ok(Fresh::Value(Value::Str(text))),
+        Err(FormatFault::BadFormat) => refused(RunFault::BadFormat),
+        Err(FormatFault::TooLong) => refused(RunFault::TooLong),
+        Err(FormatFault::NoMemory) => Err(ThingFault::NoMemory),
+    }
+}
+
+/// An operator between two Strings.
+pub fn apply_texts(alloc: Global, op: Operator, x: &Text, y: &Text) -> Result<Fresh, ThingFault>
+    ensures { TextsGive op x.now y.now result }
+{
+    match op {
+        Operator::Add => text(concat(alloc, x, y)),
+        Operator::Remainder => formatted(alloc, x, &[Arg::Str(y.share()?)]),
+        Operator::Equal => boolean(*x == *y),
+        Operator::NotEqual => boolean(!(*x == *y)),
+        Operator::Less => boolean(x.compare(y) == Ordering::Less),
+        Operator::LessEqual => boolean(x.compare(y) != Ordering::Greater),
+        Operator::Greater => boolean(x.compare(y) == Ordering::Greater),
+        Operator::GreaterEqual => boolean(x.compare(y) != Ordering::Less),
+        Operator::In => boolean(find(y, x, 0).is_some()),
+        Operator::NotIn => boolean(find(y, x, 0).is_none()),
+        _ => refused(RunFault::BadOperands),
+    }
+}
