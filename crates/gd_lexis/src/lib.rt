@@ -6,7 +6,10 @@ ghost use Rattle.std.specs.Prelude.{◌≡◌, List, ℕ};
 ghost use Rattle.gd_syntax.specs.declared.token.Keyword.{Keyword};
 ghost use Rattle.gd_syntax.specs.declared.token.Mark.{Mark};
 ghost use Rattle.gd_lexis.specs.Chars.{Glyph, Reads};
+ghost use Rattle.gd_syntax.specs.declared.pos.Pos.{Pos};
+ghost use Rattle.gd_model.specs.declared.rule.Rule.{Rule};
 ghost use Rattle.gd_lexis.specs.Words.{keyword_text, mark_text};
+ghost use Rattle.gd_lexis.specs.Faults.{FirstFault, number};
 
 /// Bytes are read as glyphs in at most one way.
 #[tactic(auto, using(crate::proofs::Readings::one_reading))]
@@ -24,4 +27,10 @@ pub fn one_keyword()
 #[tactic(auto, using(crate::proofs::Texts::one_mark))]
 pub fn one_mark()
     ensures { (m : Mark) (n : Mark) → mark_text m ≡ mark_text n → m ≡ n }
+{}
+
+/// A file has at most one first fault: one place, and the number of one rule.
+pub fn one_first_fault()
+    ensures { (file : ℕ) (bytes : List ℕ) (at : Pos) (place : Pos) (rule : Rule) (other : Rule)
+        → FirstFault file bytes at rule → FirstFault file bytes place other → (at ≡ place) × (number rule ≡ number other) }
 {}
