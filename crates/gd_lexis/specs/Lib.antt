@@ -1,0 +1,9 @@
+pub mod Chars
+pub mod Words
+pub mod Numbers
+pub mod Strings
+pub mod Pieces
+pub mod Lines
+pub mod Items
+pub mod Lexes
+pub mod Faults

@@ -1,0 +1,36 @@
+//! What the tokens of a file are, and which fault is its first (docs/language.md, "Lexis"). The definitions stand in
+//! specs/, and the functions here are laws about them.
+#![tactic(auto)]
+
+ghost use Rattle.std.specs.Prelude.{◌≡◌, List, ℕ};
+ghost use Rattle.gd_syntax.specs.declared.token.Keyword.{Keyword};
+ghost use Rattle.gd_syntax.specs.declared.token.Mark.{Mark};
+ghost use Rattle.gd_lexis.specs.Chars.{Glyph, Reads};
+ghost use Rattle.gd_syntax.specs.declared.pos.Pos.{Pos};
+ghost use Rattle.gd_model.specs.declared.rule.Rule.{Rule};
+ghost use Rattle.gd_lexis.specs.Words.{keyword_text, mark_text};
+ghost use Rattle.gd_lexis.specs.Faults.{FirstFault, number};
+
+/// Bytes are read as glyphs in at most one way.
+#[tactic(auto, using(crate::proofs::Readings::one_reading))]
+pub fn one_reading()
+    ensures { (gs : List Glyph) (hs : List Glyph) (bs : List ℕ) → Reads bs gs → Reads bs hs → gs ≡ hs }
+{}
+
+/// A text is that of at most one keyword.
+#[tactic(auto, using(crate::proofs::Texts::one_keyword))]
+pub fn one_keyword()
+    ensures { (k : Keyword) (l : Keyword) → keyword_text k ≡ keyword_text l → k ≡ l }
+{}
+
+/// A text is that of at most one mark.
+#[tactic(auto, using(crate::proofs::Texts::one_mark))]
+pub fn one_mark()
+    ensures { (m : Mark) (n : Mark) → mark_text m ≡ mark_text n → m ≡ n }
+{}
+
+/// A file has at most one first fault: one place, and the number of one rule.
+pub fn one_first_fault()
+    ensures { (file : ℕ) (bytes : List ℕ) (at : Pos) (place : Pos) (rule : Rule) (other : Rule)
+        → FirstFault file bytes at rule → FirstFault file bytes place other → (at ≡ place) × (number rule ≡ number other) }
+{}
