@@ -3,5 +3,7 @@
 
 mod heap;
 mod sort;
+mod thing;
 
 pub use heap::{Heap, MAX_ALIVE, MAX_MADE};
+pub use thing::Thing;
