@@ -1,0 +1,111 @@
+#!/usr/bin/env python3
+"""Times `check` of the built program on projects of 0.5, 1, 2 and 4 MiB of ordinary scripts.
+
+usage: bench/front_end.py [PROGRAM]      PROGRAM is by default crates/gd_command/out/gd_command
+
+Prints the speed at each size, and how the time grows from one size to the next. Wanted: at least 20 MiB/s on one
+core, and a time that grows as the size does. Skips where the program is not built.
+"""
+import os
+import random
+import subprocess
+import sys
+import tempfile
+import time
+
+MIB = 1024 * 1024
+SIZES = [MIB // 2, MIB, 2 * MIB, 4 * MIB]
+FILE = 256 * 1024
+RUNS = 5
+WANTED = 20.0
+
+KINDS = ["int", "String", "Array", "Dictionary", "bool"]
+WORDS = ["health", "speed", "target", "inventory", "position", "count", "level", "enemy", "name", "state"]
+
+
+def function(random_source, number):
+    """The lines of one function."""
+    pick = lambda: random_source.choice(WORDS)
+    first, second, third = pick(), pick(), pick()
+    return f"""
+## Moves the {first} towards the {second}.
+func update_{first}_{number}({second}: int, {third}_left: {random_source.choice(KINDS)} = null) -> int:
+\tvar total := {random_source.randrange(1000)}
+\tvar {first}_names: Array[String] = ["{second}", "{third}", 'caf\u00e9 {number}']
+\tfor index in range({second}):
+\t\tif index % 2 == 0 and not is_done:
+\t\t\ttotal += index * ({number} - {second}) # the {third} counts twice
+\t\telif {first}_names[index % 3] == "{pick()}":
+\t\t\tcontinue
+\t\telse:
+\t\t\tprint("{first}: ", total, ", ", {first}_names)
+\tmatch total:
+\t\t0, 1:
+\t\t\treturn {random_source.randrange(10 ** 6)}
+\t\t_:
+\t\t\tpass
+\twhile total > 0x{random_source.randrange(2 ** 16):x}:
+\t\ttotal -= 1 if is_done else 2
+\treturn total
+"""
+
+
+def script(random_source, bytes_wanted):
+    """A script of at most this many bytes, whole functions alone."""
+    text = "extends RefCounted\n\nvar is_done: bool = false\nconst LIMITS = {\"low\": 1, \"high\": [2, 3]}\n"
+    parts, length, number = [text], len(text.encode()), 0
+    while True:
+        part = function(random_source, number)
+        length += len(part.encode())
+        if length > bytes_wanted:
+            return "".join(parts)
+        parts.append(part)
+        number += 1
+
+
+def project(folder, size):
+    """Writes scripts of this many bytes together, or a little fewer. Answers the bytes written."""
+    random_source = random.Random(size)
+    written = 0
+    for number in range(size // FILE):
+        text = script(random_source, FILE).encode()
+        written += len(text)
+        with open(os.path.join(folder, f"script_{number:02}.gd"), "wb") as file:
+            file.write(text)
+    return written
+
+
+def seconds(program, folder):
+    """The least time of a few runs."""
+    best = None
+    for _ in range(RUNS):
+        start = time.perf_counter()
+        run = subprocess.run([program, "check"], cwd=folder, capture_output=True)
+        took = time.perf_counter() - start
+        if run.returncode != 0 or run.stdout:
+            sys.exit(f"check answered {run.returncode}: {run.stdout[:400]!r}")
+        best = took if best is None else min(best, took)
+    return best
+
+
+def main():
+    root = os.path.dirname(os.path.dirname(os.path.abspath(__file__)))
+    program = sys.argv[1] if len(sys.argv) > 1 else os.path.join(root, "crates", "gd_command", "out", "gd_command")
+    if not os.path.exists(program):
+        print(f"skipped: {program} is not built")
+        return
+    program = os.path.abspath(program)
+    before = None
+    for size in SIZES:
+        with tempfile.TemporaryDirectory() as folder:
+            written = project(folder, size)
+            took = seconds(program, folder)
+        speed = written / MIB / took
+        growth = "" if before is None else f", {took / before[1]:.2f} times the time for {written / before[0]:.2f} times the bytes"
+        print(f"{written / MIB:.2f} MiB: {took * 1000:.1f} ms, {speed:.1f} MiB/s{growth}"
+              + ("" if speed >= WANTED else f" (below {WANTED:.0f} MiB/s)"))
+        before = (written, took)
+
+
+if __name__ == "__main__":
+    main()
