@@ -5,10 +5,9 @@ use Rattle.gd_outside.specs.Files.{File}
 use Rattle.gd_outside.specs.Sink.{Appends, AppendsPrefix}
 use Rattle.gd_outside.specs.declared.shelf.FailedCall.{FailedCall}
 use Rattle.gd_command.specs.Words.{Means}
-use Rattle.gd_command.specs.Output.{Output, CommandOutput, RunOutput, CheckOutput, NoCommand, usage, command, usage_line, scripts}
+use Rattle.gd_command.specs.Output.{Output, RunOutput, CheckOutput, NoCommand, usage, command, usage_line, scripts}
 use Rattle.gd_command.specs.Answer.{IsAnswer, IsFaultOf, answer_text, answer_status}
-use Rattle.gd_command.specs.Call.{NamesFault, list_failed, read_failed, IsBegun, nothing, output_begun, fault_begun, Writes, Adds}
-use Rattle.gd_command.specs.declared.words.Command.{Command}
+use Rattle.gd_command.specs.Call.{list_failed, read_failed, IsBegun, nothing, output_begun, fault_begun, Writes, Adds}
 use Rattle.gd_command.specs.declared.words.Command.TheVariants.{Check, Run}
 use Rattle.gd_command.specs.declared.answer.Answer.{Answer}
 use Rattle.gd_command.specs.declared.answer.Answer.TheVariants.{Usage, ListFault, ReadFault, NotBuilt, Ran, TooManyFiles, LongFile, LongProject, Clean, Faulty}

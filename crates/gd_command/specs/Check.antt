@@ -4,7 +4,6 @@ use Rattle.gd_outside.specs.Files.{File, bytes_at, place_of, paths_of}
 use Rattle.gd_outside.specs.declared.shelf.FailedCall.{FailedCall}
 use Rattle.gd_outside.specs.declared.shelf.FailedCall.TheVariants.{Read}
 use Rattle.gd_command.specs.Output.{IsShort, IsOneEach, total}
-use Rattle.gd_command.specs.declared.answer.FileFault.{FileFault}
 use Rattle.gd_command.specs.declared.answer.Answer.{Answer}
 use Rattle.gd_command.specs.declared.answer.Answer.TheVariants.{Usage, ListFault, ReadFault, NotBuilt, Ran, TooManyFiles, LongFile, LongProject, Clean, Faulty}
 use Rattle.gd_command.specs.declared.check.Script.{Script}

@@ -1,4 +1,3 @@
-use Rattle.std.proofs.Common.{ap, subst, sym}
 use Rattle.gd_command.proofs.CheckLemmas.{one_without, one_with_path}
 use Rattle.gd_command.proofs.check.find_fault.Goals as goal
 

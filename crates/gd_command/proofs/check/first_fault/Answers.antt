@@ -1,4 +1,4 @@
-use Rattle.std.proofs.Common.{arith, ap, sym, subst, length}
+use Rattle.std.proofs.Common.{arith, ap, length}
 use Rattle.gd_command.proofs.CheckLemmas.{whole_has_token}
 use Rattle.gd_command.proofs.check.first_fault.Goals as goal
 
