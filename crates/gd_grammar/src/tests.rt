@@ -96,7 +96,9 @@ fn a_power_groups_to_the_left(rt: HostRuntime) -> Result<(), Fail> {
         TokenKind::Number(2),
     ]?;
     let tokens = variable(rt.alloc(), value)?;
-    let script = outcome(rt.alloc(), tokens.as_slice()).ok().ok_or("refused")?;
+    let script = outcome(rt.alloc(), tokens.as_slice())
+        .ok()
+        .ok_or("refused")?;
     let whole = initial(&script).ok_or("no value")?;
     let (base, exponent) = power(whole).ok_or("no power")?;
     let (first, second) = power(base).ok_or("no power inside")?;
@@ -115,7 +117,9 @@ fn a_sign_takes_a_whole_power(rt: HostRuntime) -> Result<(), Fail> {
         TokenKind::Number(2),
     ]?;
     let tokens = variable(rt.alloc(), value)?;
-    let script = outcome(rt.alloc(), tokens.as_slice()).ok().ok_or("refused")?;
+    let script = outcome(rt.alloc(), tokens.as_slice())
+        .ok()
+        .ok_or("refused")?;
     let whole = initial(&script).ok_or("no value")?;
     let operand = negated(whole).ok_or("no negation")?;
     let (base, exponent) = power(operand).ok_or("no power")?;
