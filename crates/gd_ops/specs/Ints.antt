@@ -7,7 +7,7 @@ use Rattle.gd_syntax.specs.declared.operator.Operator.TheVariants.{Power, Multip
 use Rattle.gd_model.specs.declared.fault.RunFault.{RunFault}
 use Rattle.gd_model.specs.declared.fault.RunFault.TheVariants.{ZeroDivisorOrStep, BadOperands, BadShift}
 use Rattle.gd_model.specs.declared.value.Value.{Value}
-use Rattle.gd_model.specs.declared.value.Value.TheVariants.{Bool as BoolValue, Int, Str}
+use Rattle.gd_model.specs.declared.value.Value.TheVariants.{Nil, Bool as BoolValue, Int, Str}
 use Rattle.gd_containers.specs.declared.fault.ThingFault.{ThingFault}
 use Rattle.gd_containers.specs.declared.fault.ThingFault.TheVariants.{Run}
 use Rattle.gd_ops.specs.declared.fresh.Fresh.{Fresh}
@@ -80,3 +80,10 @@ two_ints _ _ = None
 abbrev pub two_texts : Value → Value → Option (List ℕ × List ℕ)
 two_texts (Str x) (Str y) = Some (x, y)
 two_texts _ _ = None
+
+-- the int behind an operator that takes one int
+abbrev pub one_int : Operator → Value → Value → Option ℤ
+one_int Negate (Int x) Nil = Some x
+one_int Plus (Int x) Nil = Some x
+one_int Complement (Int x) Nil = Some x
+one_int _ _ _ = None

@@ -10,6 +10,8 @@ mod methods;
 mod operators;
 mod print;
 mod rows;
+#[cfg(test)]
+mod tests;
 mod texts;
 
 pub use builtin::{Builtin, call_builtin};

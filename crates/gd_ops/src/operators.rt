@@ -27,10 +27,13 @@ pub fn apply<K: Look>(
 ) -> Result<Fresh, ThingFault>
     ensures ints { IfSome (spec.two_ints a.now b.now) (λ p. result ≡ spec.answer (spec.ints_give op p.0 p.1)) }
     ensures texts { IfSome (spec.two_texts a.now b.now) (λ p. TextsGive op p.0 p.1 result) }
+    ensures int { IfSome (spec.one_int op a.now b.now) (λ x. result ≡ spec.answer (spec.int_gives op x)) }
 {
-    match (a, b) {
-        (Value::Int(x), Value::Int(y)) => apply_ints(op, *x, *y),
-        (Value::Str(x), Value::Str(y)) => apply_texts(alloc, op, x, y),
+    match (op, a, b) {
+        (_, Value::Int(x), Value::Int(y)) => apply_ints(op, *x, *y),
+        (_, Value::Str(x), Value::Str(y)) => apply_texts(alloc, op, x, y),
+        (Operator::Negate | Operator::Plus | Operator::Complement, Value::Int(x), Value::Nil) =>
+            apply_int(op, *x),
         _ => apply_others(alloc, op, a, b, look),
     }
 }

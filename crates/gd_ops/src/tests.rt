@@ -1,0 +1,86 @@
+use crate::{Builtin, Fresh, apply, call_builtin, text_of};
+use gd_containers::{Look, OrderedDict, ThingFault, TypedArray};
+use gd_model::{RunFault, Value};
+use gd_syntax::{Operator, Text};
+use slot_arena::Handle;
+use std::alloc::Global;
+use std::test::Fail;
+
+/// A run without things.
+struct Nowhere;
+
+impl Look for Nowhere {
+    ghost use Rattle.std.specs.Prelude.{None};
+
+    ghost things = { λ _ h. None };
+
+    ghost names = { λ _ n. None };
+
+    fn array(&self, _: Handle) -> Option<&TypedArray> {
+        None
+    }
+
+    fn dict(&self, _: Handle) -> Option<&OrderedDict> {
+        None
+    }
+
+    fn class_of(&self, _: Handle) -> Option<u32> {
+        None
+    }
+
+    fn class_name(&self, _: u32) -> Option<&Text> {
+        None
+    }
+}
+
+fn int_of(made: Result<Fresh, ThingFault>) -> Result<i64, RunFault> {
+    match made {
+        Ok(Fresh::Value(Value::Int(n))) => Ok(n),
+        Ok(_) => Ok(i64::MAX),
+        Err(ThingFault::Run(fault)) => Err(fault),
+        Err(ThingFault::NoMemory) => Ok(i64::MIN),
+    }
+}
+
+#[test]
+fn ints(rt: HostRuntime) {
+    for (op, x, y, wanted) in [
+        (Operator::Power, 2, -1, Ok(0)),
+        (Operator::Power, 0, -1, Err(RunFault::ZeroDivisorOrStep)),
+        (Operator::Power, 3, 40, Ok(-6_289_078_614_652_622_815)),
+        (Operator::Divide, -7, 2, Ok(-3)),
+        (Operator::Remainder, -7, 2, Ok(-1)),
+        (Operator::Divide, i64::MIN, -1, Ok(i64::MIN)),
+        (Operator::Add, i64::MAX, 1, Ok(i64::MIN)),
+        (Operator::ShiftRight, -1, 64, Ok(-1)),
+        (Operator::ShiftRight, 1, -1, Err(RunFault::BadShift)),
+        (Operator::ShiftLeft, 1, 64, Ok(0)),
+    ] {
+        let made = apply(rt.alloc(), op, &Value::Int(x), &Value::Int(y), &Nowhere);
+        assert_eq!(rt; int_of(made), wanted);
+    }
+}
+
+#[test]
+fn others(rt: HostRuntime) -> Result<(), Fail> {
+    let alloc = rt.alloc();
+    let a = Value::Str(Text::from_utf8(alloc, b"a")?);
+    let less = apply(alloc, Operator::Less, &Value::Int(1), &a, &Nowhere);
+    assert_eq!(rt; int_of(less), Err(RunFault::BadOperands));
+    let minus = apply(
+        alloc,
+        Operator::Negate,
+        &Value::Int(7),
+        &Value::Nil,
+        &Nowhere,
+    );
+    assert_eq!(rt; int_of(minus), Ok(-7));
+    for (x, y, wanted) in [(-7, 3, 2), (7, -3, -2)] {
+        let args = [Value::Int(x), Value::Int(y)];
+        let made = call_builtin(alloc, Builtin::Posmod, &args, &Nowhere);
+        assert_eq!(rt; int_of(made), Ok(wanted));
+    }
+    let null = text_of(alloc, &Value::Nil, &Nowhere)?;
+    assert!(rt; null == Text::from_utf8(alloc, b"<null>")?);
+    Ok(())
+}
