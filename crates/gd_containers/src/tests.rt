@@ -15,26 +15,22 @@ fn holds(a: &TypedArray, wanted: &[i64]) -> bool {
     a.items().len() == wanted.len() && a.items().iter().zip(wanted).all(|(v, n)| is_int(v, *n))
 }
 
-#[test]
-fn arrays(rt: HostRuntime) -> Result<(), Fail> {
-    let mut a = TypedArray::new(rt.alloc(), Ty::Int, false);
-    for n in 1..4 {
-        a.push(Value::Int(n), true)?;
+/// An array of these ints.
+fn array_of(alloc: Global, numbers: &[i64]) -> Result<TypedArray, Fail> {
+    let mut array = TypedArray::new(alloc, Ty::Int, false);
+    for n in numbers {
+        array.push(Value::Int(*n), true)?;
     }
-    a.insert(0, Value::Int(9), true)?;
-    assert!(rt; holds(&a, &[9, 1, 2, 3]));
-    assert!(rt; is_int(&a.remove_at(-1)?, 3));
-    assert!(rt; holds(&a.slice(rt.alloc(), 1, 3)?, &[1, 2]));
-    let refused = a.set(0, Value::Nil, false);
-    assert!(rt; matches!(refused, Err(ThingFault::Run(RunFault::ValueOfAnotherType))));
-    let outside = a.set(5, Value::Nil, false);
-    assert!(rt; matches!(outside, Err(ThingFault::Run(RunFault::OutOfRange))));
-    assert!(rt; holds(&a, &[9, 1, 2]));
-    assert_eq!(rt; a.clear()?.len(), 3);
-    a.fix();
-    let fixed = a.push(Value::Int(1), true);
-    assert!(rt; matches!(fixed, Err(ThingFault::Run(RunFault::ReadOnly))));
-    Ok(())
+    Ok(array)
+}
+
+/// A dictionary to which these pairs were put in turn.
+fn dict_of(alloc: Global, pairs: &[(&str, i64)]) -> Result<OrderedDict, Fail> {
+    let mut dict = OrderedDict::new(alloc, false);
+    for (name, n) in pairs {
+        dict.put(word(alloc, name)?, Value::Int(*n), true)?;
+    }
+    Ok(dict)
 }
 
 fn word(alloc: Global, s: &str) -> Result<Key, Fail> {
@@ -42,18 +38,76 @@ fn word(alloc: Global, s: &str) -> Result<Key, Fail> {
 }
 
 #[test]
-fn dictionaries(rt: HostRuntime) -> Result<(), Fail> {
+fn an_element_is_inserted(rt: HostRuntime) -> Result<(), Fail> {
+    let mut array = array_of(rt.alloc(), &[1, 2, 3])?;
+    array.insert(0, Value::Int(9), true)?;
+    assert!(rt; holds(&array, &[9, 1, 2, 3]));
+    Ok(())
+}
+
+#[test]
+fn the_last_element_is_removed(rt: HostRuntime) -> Result<(), Fail> {
+    let mut array = array_of(rt.alloc(), &[9, 1, 2, 3])?;
+    let last = array.remove_at(-1)?;
+    assert!(rt; is_int(&last, 3));
+    assert!(rt; holds(&array, &[9, 1, 2]));
+    Ok(())
+}
+
+#[test]
+fn a_part_is_cut(rt: HostRuntime) -> Result<(), Fail> {
+    let array = array_of(rt.alloc(), &[9, 1, 2])?;
+    let part = array.slice(rt.alloc(), 1, 3)?;
+    assert!(rt; holds(&part, &[1, 2]));
+    Ok(())
+}
+
+#[test]
+fn a_refusal_changes_nothing(rt: HostRuntime) -> Result<(), Fail> {
+    let mut array = array_of(rt.alloc(), &[7])?;
+    let unfit = array.set(0, Value::Nil, false);
+    assert!(rt; matches!(unfit, Err(ThingFault::Run(RunFault::ValueOfAnotherType))));
+    let outside = array.set(1, Value::Nil, false);
+    assert!(rt; matches!(outside, Err(ThingFault::Run(RunFault::OutOfRange))));
+    assert!(rt; holds(&array, &[7]));
+    Ok(())
+}
+
+#[test]
+fn a_read_only_array_is_not_written(rt: HostRuntime) -> Result<(), Fail> {
+    let mut array = array_of(rt.alloc(), &[9, 1, 2])?;
+    let old = array.clear()?;
+    assert_eq!(rt; old.len(), 3);
+    array.fix();
+    let fixed = array.push(Value::Int(1), true);
+    assert!(rt; matches!(fixed, Err(ThingFault::Run(RunFault::ReadOnly))));
+    Ok(())
+}
+
+#[test]
+fn an_overwritten_key_keeps_its_place(rt: HostRuntime) -> Result<(), Fail> {
+    let dict = dict_of(rt.alloc(), &[("a", 1), ("b", 2), ("a", 3)])?;
+    assert!(rt; dict.at(0).is_some_and(|pair| is_int(pair.1, 3)));
+    assert!(rt; dict.at(1).is_some_and(|pair| is_int(pair.1, 2)));
+    Ok(())
+}
+
+#[test]
+fn an_erased_key_goes_to_the_end(rt: HostRuntime) -> Result<(), Fail> {
     let alloc = rt.alloc();
-    let mut d = OrderedDict::new(alloc, false);
-    d.put(word(alloc, "a")?, Value::Int(1), true)?;
-    d.put(word(alloc, "b")?, Value::Int(2), true)?;
-    d.put(word(alloc, "a")?, Value::Int(3), true)?;
-    assert!(rt; d.at(0).is_some_and(|p| is_int(p.1, 3)));
-    assert!(rt; d.erase(&word(alloc, "a")?)?.is_some());
-    d.put(word(alloc, "a")?, Value::Int(4), true)?;
-    assert!(rt; d.at(0).is_some_and(|p| is_int(p.1, 2)));
-    assert!(rt; d.get(&word(alloc, "a")?).is_some_and(|v| is_int(v, 4)));
-    assert_eq!(rt; d.clear()?.len(), 2);
-    assert!(rt; matches!(key_of(&Value::Int(1))?, Key::Int(1)));
+    let mut dict = dict_of(alloc, &[("a", 3), ("b", 2)])?;
+    let erased = dict.erase(&word(alloc, "a")?)?;
+    assert!(rt; erased.is_some());
+    dict.put(word(alloc, "a")?, Value::Int(4), true)?;
+    assert!(rt; dict.at(1).is_some_and(|pair| is_int(pair.1, 4)));
+    Ok(())
+}
+
+#[test]
+fn a_cleared_dictionary_answers_its_pairs(rt: HostRuntime) -> Result<(), Fail> {
+    let mut dict = dict_of(rt.alloc(), &[("a", 1)])?;
+    assert_eq!(rt; dict.clear()?.len(), 1);
+    let key = key_of(&Value::Int(1))?;
+    assert!(rt; matches!(key, Key::Int(1)));
     Ok(())
 }
