@@ -62,24 +62,33 @@ fn ints(rt: HostRuntime) {
 }
 
 #[test]
-fn others(rt: HostRuntime) -> Result<(), Fail> {
+fn mixed_kinds_are_bad_operands(rt: HostRuntime) -> Result<(), Fail> {
     let alloc = rt.alloc();
     let a = Value::Str(Text::from_utf8(alloc, b"a")?);
     let less = apply(alloc, Operator::Less, &Value::Int(1), &a, &Nowhere);
     assert_eq!(rt; int_of(less), Err(RunFault::BadOperands));
-    let minus = apply(
-        alloc,
-        Operator::Negate,
-        &Value::Int(7),
-        &Value::Nil,
-        &Nowhere,
-    );
+    Ok(())
+}
+
+#[test]
+fn an_int_is_negated(rt: HostRuntime) {
+    let seven = Value::Int(7);
+    let minus = apply(rt.alloc(), Operator::Negate, &seven, &Value::Nil, &Nowhere);
     assert_eq!(rt; int_of(minus), Ok(-7));
+}
+
+#[test]
+fn posmod_has_the_sign_of_the_divisor(rt: HostRuntime) {
     for (x, y, wanted) in [(-7, 3, 2), (7, -3, -2)] {
         let args = [Value::Int(x), Value::Int(y)];
-        let made = call_builtin(alloc, Builtin::Posmod, &args, &Nowhere);
+        let made = call_builtin(rt.alloc(), Builtin::Posmod, &args, &Nowhere);
         assert_eq!(rt; int_of(made), Ok(wanted));
     }
+}
+
+#[test]
+fn null_is_printed(rt: HostRuntime) -> Result<(), Fail> {
+    let alloc = rt.alloc();
     let null = text_of(alloc, &Value::Nil, &Nowhere)?;
     assert!(rt; null == Text::from_utf8(alloc, b"<null>")?);
     Ok(())
