@@ -1,5 +1,4 @@
 mod CallLemmas
-mod CheckLemmas
 mod Close
 mod LinesLemmas
 mod PutsLemmas

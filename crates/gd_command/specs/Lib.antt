@@ -1,6 +1,5 @@
 pub mod Answer
 pub mod Call
-pub mod Check
 pub mod Close
 pub mod Lines
 pub mod Output

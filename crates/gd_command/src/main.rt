@@ -2,9 +2,7 @@
 #![tactic(auto)]
 
 mod answer;
-mod check;
 mod print;
-mod project;
 mod run;
 mod source;
 mod status;

@@ -1,9 +1,0 @@
-use Rattle.std.proofs.Common.{◌<◌}
-use Rattle.gd_grammar.specs.Cursor.{left}
-use Rattle.gd_grammar.proofs.expr.Rules.binary.Given as goal
-
-abbrev pub invariant-operators : goal.invariant-operators
-invariant-operators g l = left l.cursor < left l.fn.cursor
-
-abbrev pub decreases-operators : goal.decreases-operators
-decreases-operators g l = left l.cursor

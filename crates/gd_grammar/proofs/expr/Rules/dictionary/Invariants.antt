@@ -1,8 +1,0 @@
-use Rattle.gd_grammar.specs.Cursor.{left, Keeps}
-use Rattle.gd_grammar.proofs.expr.Rules.dictionary.Given as goal
-
-abbrev pub invariant-pairs : goal.invariant-pairs
-invariant-pairs g l = Keeps l.initial.cursor l.cursor
-
-abbrev pub decreases-pairs : goal.decreases-pairs
-decreases-pairs g l = left l.cursor

@@ -1,9 +1,0 @@
-use Rattle.std.proofs.Common.{◌<◌}
-use Rattle.gd_grammar.specs.Cursor.{left}
-use Rattle.gd_grammar.proofs.expr.Rules.postfix.Given as goal
-
-abbrev pub invariant-steps : goal.invariant-steps
-invariant-steps g l = left l.cursor < left l.fn.cursor
-
-abbrev pub decreases-steps : goal.decreases-steps
-decreases-steps g l = left l.cursor

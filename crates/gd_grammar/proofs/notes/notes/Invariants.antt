@@ -1,8 +1,0 @@
-use Rattle.gd_grammar.specs.Cursor.{left, Keeps}
-use Rattle.gd_grammar.proofs.notes.notes.Given as goal
-
-abbrev pub invariant-notes : goal.invariant-notes
-invariant-notes l = Keeps l.initial.cursor l.cursor
-
-abbrev pub decreases-notes : goal.decreases-notes
-decreases-notes l = left l.cursor

@@ -1,9 +1,0 @@
-use Rattle.std.proofs.Common.{◌<◌}
-use Rattle.gd_grammar.specs.Cursor.{left}
-use Rattle.gd_grammar.proofs.stmt.Rules.statements.Given as goal
-
-abbrev pub invariant-statements : goal.invariant-statements
-invariant-statements g l = left l.cursor < left l.fn.cursor
-
-abbrev pub decreases-statements : goal.decreases-statements
-decreases-statements g l = left l.cursor

@@ -1,9 +1,0 @@
-use Rattle.std.proofs.Common.{◌<◌}
-use Rattle.gd_grammar.specs.Cursor.{left}
-use Rattle.gd_grammar.proofs.stmt.alternatives.Given as goal
-
-abbrev pub invariant-alternatives : goal.invariant-alternatives
-invariant-alternatives l = left l.cursor < left l.fn.cursor
-
-abbrev pub decreases-alternatives : goal.decreases-alternatives
-decreases-alternatives l = left l.cursor

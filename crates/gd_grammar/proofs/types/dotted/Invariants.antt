@@ -1,9 +1,0 @@
-use Rattle.std.proofs.Common.{◌<◌}
-use Rattle.gd_grammar.specs.Cursor.{left}
-use Rattle.gd_grammar.proofs.types.dotted.Given as goal
-
-abbrev pub invariant-names : goal.invariant-names
-invariant-names l = left l.cursor < left l.fn.cursor
-
-abbrev pub decreases-names : goal.decreases-names
-decreases-names l = left l.cursor
