@@ -15,6 +15,7 @@ use gd_outside::{FolderShelf, StdSink};
 use status::Status;
 use std::alloc::{AllocError, Global};
 use std::env::Env;
+use std::io::ErrorKind;
 use std::process::ExitCode;
 
 /// Runs the words of the command line over the current folder and standard output.
@@ -46,6 +47,7 @@ fn words_after_name(
                 words.push(word)?;
             }
         }
+        Err(error) if error.kind() == ErrorKind::OutOfMemory => return Err(AllocError),
         Err(_) => words.push(String::new(alloc))?,
     }
     Ok(words)
