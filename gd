@@ -6,7 +6,9 @@ top=$(dirname -- "$self")
 program=$top/crates/gd_command/out/gd_command
 if [ ! -x "$program" ]; then
     echo "gd: the program is not built yet. Building it proves every function first, which takes some minutes." >&2
-    if ! (cd "$top/crates/gd_command" && rt run) >"$top/crates/gd_command/build.log" 2>&1 || [ ! -x "$program" ]; then
+    # The build also runs the program once, without words, so its status says nothing: the program is there or is not.
+    (cd "$top/crates/gd_command" && rt run) >"$top/crates/gd_command/build.log" 2>&1
+    if [ ! -x "$program" ]; then
         tail -n 20 "$top/crates/gd_command/build.log" >&2
         echo "gd: it could not be built; the whole log is $top/crates/gd_command/build.log" >&2
         exit 7
