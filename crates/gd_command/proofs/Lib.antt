@@ -1,4 +1,5 @@
 mod CallLemmas
+mod CheckLemmas
 mod Close
 mod LinesLemmas
 mod PutsLemmas

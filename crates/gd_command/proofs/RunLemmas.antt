@@ -19,13 +19,13 @@ use Rattle.gd_meaning.specs.Run.{events_of}
 use Rattle.gd_command.specs.Output.{scripts, IsScript, RunOutput, ran, not_built, printed}
 use Rattle.gd_command.specs.Answer.{IsAnswer, RunsSource, printed_of}
 use Rattle.gd_command.specs.declared.answer.Answer.{Answer}
-use Rattle.gd_command.specs.declared.answer.Answer.TheVariants.{Usage, ListFault, ReadFault, NotBuilt, Ran}
+use Rattle.gd_command.specs.declared.answer.Answer.TheVariants.{Usage, ListFault, ReadFault, NotBuilt, Ran, TooManyFiles, LongFile, LongProject, Clean, Faulty}
 use Rattle.gd_command.specs.declared.status.Status.TheVariants as status
 
 abbrev pub is_script : List ℕ → Bool
 is_script path = ends_with nat_eq path (codes ".gd")
 
-filter-paths : (files : List File) → filter is_script (paths_of files) ≡ paths_of (scripts files)
+pub filter-paths : (files : List File) → filter is_script (paths_of files) ≡ paths_of (scripts files)
 filter-paths [] = refl
 filter-paths (f ∷ files) =
     elim (is_script f.0) as (λ b. cond b (f.0 ∷ filter is_script (paths_of files)) (filter is_script (paths_of files)) ≡ paths_of (cond b (f ∷ scripts files) (scripts files))) [
@@ -122,6 +122,11 @@ source-answers : (files : List File) (main : List ℕ) (kept : List (List ℕ)) 
 source-answers files main kept found failed Usage is alone reads runs = absurd runs
 source-answers files main kept found failed ListFault is alone reads runs = absurd runs
 source-answers files main kept found failed (ReadFault path) is alone reads runs = absurd runs
+source-answers files main kept found failed TooManyFiles is alone reads runs = absurd runs
+source-answers files main kept found failed (LongFile path) is alone reads runs = absurd runs
+source-answers files main kept found failed LongProject is alone reads runs = absurd runs
+source-answers files main kept found failed Clean is alone reads runs = absurd runs
+source-answers files main kept found failed (Faulty faults) is alone reads runs = absurd runs
 source-answers files main kept found failed NotBuilt is alone (bytes, at, taken) none =
     not_built (λ ss script.
     let there : Some script.source ≡ Some bytes = sym (script-found files main script.source script.alone) ∙ at in

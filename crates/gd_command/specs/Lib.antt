@@ -1,5 +1,6 @@
 pub mod Answer
 pub mod Call
+pub mod Check
 pub mod Close
 pub mod Lines
 pub mod Output

@@ -1,6 +1,7 @@
 //! The answers that a call decides on before it writes.
 use crate::status::Status;
 use gd_meaning::Statement;
+use gd_model::Diag;
 use gd_outside::Path;
 use gd_syntax::Seq;
 
@@ -17,6 +18,23 @@ pub enum Answer {
     NotBuilt,
     /// The script ran these statements.
     Ran(Seq<Statement>),
+    /// The project has more scripts than a project may have.
+    TooManyFiles,
+    /// The script with this path is longer than a script may be.
+    LongFile(Path),
+    /// The scripts together are longer than those of a project may be.
+    LongProject,
+    /// No error rule holds.
+    Clean,
+    /// Error rules hold at these places.
+    Faulty(Seq<FileFault>),
+}
+
+/// A place of a script at which an error rule holds.
+#[derive(Drop)]
+pub struct FileFault {
+    pub path: Path,
+    pub diag: Diag,
 }
 
 impl Answer {
@@ -31,7 +49,9 @@ impl Answer {
             Answer::Usage => Status::Usage,
             Answer::ListFault | Answer::ReadFault(_) => Status::ReadFault,
             Answer::NotBuilt => Status::NotBuilt,
-            Answer::Ran(_) => Status::Done,
+            Answer::Ran(_) | Answer::Clean => Status::Done,
+            Answer::TooManyFiles | Answer::LongFile(_) | Answer::LongProject => Status::TooLarge,
+            Answer::Faulty(_) => Status::Faulty,
         }
     }
 }

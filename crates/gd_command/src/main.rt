@@ -2,7 +2,9 @@
 #![tactic(auto)]
 
 mod answer;
+mod check;
 mod print;
+mod project;
 mod run;
 mod source;
 mod status;

@@ -1,6 +1,5 @@
 //! `run MAIN`: reads the project and decides on its answer.
-ghost use Rattle.std.specs.Prelude.{◌≡◌, ◌≢◌, ◌≤◌, ◌↔◌, ◌∷◌, [], IsTrue, IfOk, IfSome, filter, nat_eq, codes};
-ghost use Rattle.std.specs.List.{ends_with};
+ghost use Rattle.std.specs.Prelude.{◌≡◌, ◌≢◌, ◌≤◌, ◌↔◌, ◌∷◌, [], IsTrue, IfOk, IfSome};
 ghost use Rattle.gd_outside.specs.Cause.{Rose};
 ghost use Rattle.gd_command.specs.Output.{RunOutput};
 ghost use Rattle.gd_command.specs.Answer.{IsAnswer, IsFaultOf, RunsSource};
@@ -8,14 +7,12 @@ ghost use Rattle.gd_command.specs.declared.answer.Answer.{Answer};
 ghost use Rattle.gd_command.specs.declared.answer.Answer.TheVariants.{Usage};
 
 use crate::answer::Answer;
+use crate::project::{MAX_SOURCE, keep_scripts};
 use crate::source::read_source;
 use gd_outside::{Path, Shelf, ShelfFault};
 use gd_syntax::Seq;
 use no_memory::NoMemory;
 use std::alloc::Global;
-
-/// The most bytes that a script has.
-const MAX_SOURCE: u32 = 1_048_576;
 
 /// What `run` of the script with this path answers.
 pub fn run<H: Shelf>(alloc: Global, main: Path, shelf: &mut H) -> Result<Answer, NoMemory>
@@ -48,20 +45,6 @@ fn is_alone(paths: &[Path], main: &Path) -> bool
         [only] => only.bytes() == main.bytes(),
         _ => false,
     }
-}
-
-/// Leaves the paths of scripts alone.
-fn keep_scripts(paths: &mut Vec<Path>)
-    ensures { paths.new.items ≡ filter (λ path. ends_with nat_eq path (codes ".gd")) paths.old.items }
-{
-    paths.retain(is_script);
-}
-
-/// Whether the name of the file ends in `.gd`.
-fn is_script(path: &Path) -> bool
-    ensures { result ≡ ends_with nat_eq path.now (codes ".gd") }
-{
-    path.bytes().ends_with(b".gd")
 }
 
 /// The answer for a script with this source.

@@ -35,6 +35,15 @@ fn outcome(alloc: Global, call: Call) -> Result<(Status, String), Fail> {
     if let Some((path, text)) = call.file {
         files.push((Path::new(alloc, path)?, text.as_bytes().to_vec(alloc)?))?;
     }
+    answered(alloc, files, call)
+}
+
+/// What the call writes over these files, and its status.
+fn answered(
+    alloc: Global,
+    files: Vec<(Path, Vec<u8>)>,
+    call: Call,
+) -> Result<(Status, String), Fail> {
     if !are_distinct(&files) {
         return Err("two files with one path")?;
     }
@@ -47,6 +56,19 @@ fn outcome(alloc: Global, call: Call) -> Result<(Status, String), Fail> {
     let status = gd(alloc, &words, &mut shelf, &mut out);
     let text = String::from_utf8(out.bytes().to_vec(alloc)?)?;
     Ok((status, text))
+}
+
+/// This many files of this many line ends.
+fn blank_files(alloc: Global, count: u64, bytes: usize) -> Result<Vec<(Path, Vec<u8>)>, Fail> {
+    let mut files = Vec::new(alloc);
+    for number in 0..count {
+        let path = format!(in alloc; "{number}.gd")?;
+        files.push((
+            Path::new(alloc, path.as_str())?,
+            vec![in alloc; b'\n'; bytes]?,
+        ))?;
+    }
+    Ok(files)
 }
 
 #[test]
@@ -145,6 +167,81 @@ fn calls_answer_as_their_words_mean(rt: HostRuntime) -> Result<(), Fail> {
     ] {
         let (ended, written) = outcome(rt.alloc(), call)?;
         assert_eq!(rt; written.as_str(), text, "at {}", call.words);
+        assert!(rt; ended == status);
+    }
+    Ok(())
+}
+
+#[test]
+fn check_finds_the_first_fault_of_a_script(rt: HostRuntime) -> Result<(), Fail> {
+    for (text, wanted) in [
+        ("func test():\n\tprint(42)\n", ""),
+        ("print(1.5)", "main.gd:1:7: error L07: float\n"),
+        (
+            "func test():\n\tprint(1.5)\n",
+            "main.gd:2:8: error L07: float\n",
+        ),
+        (
+            "func test():\n\tpass\n  pass\n",
+            "main.gd:3:1: error L02: mixed indentation\n",
+        ),
+        ("func f(:", "main.gd:1:8: error S01: syntax\n"),
+        (
+            "func test():\n\tprint(1",
+            "main.gd:2:9: error S01: syntax\n",
+        ),
+        (
+            "func test():\n\tvar x = await f()\n",
+            "main.gd:2:10: error S02: form left out\n",
+        ),
+        ("var d: Dictionary[String, int] = {}\n", ""),
+    ] {
+        let call = Call {
+            file: Some(("main.gd", text)),
+            words: "check",
+            ..FORTY_TWO
+        };
+        let (ended, written) = outcome(rt.alloc(), call)?;
+        assert_eq!(rt; written.as_str(), wanted);
+        assert!(rt;
+            ended
+                == if wanted.is_empty() {
+                    Status::Done
+                } else {
+                    Status::Faulty
+                }
+        );
+    }
+    Ok(())
+}
+
+#[test]
+fn check_keeps_to_the_limits(rt: HostRuntime) -> Result<(), Fail> {
+    for (count, bytes, fails, status, wanted) in [
+        (0, 0, &[][..], Status::Done, ""),
+        (1, 1_048_576, &[], Status::Done, ""),
+        (
+            2,
+            1_048_577,
+            &[],
+            Status::TooLarge,
+            "too large: file 0.gd\n",
+        ),
+        (1024, 1, &[], Status::Done, ""),
+        (1025, 1, &[2], Status::TooLarge, "too large: files\n"),
+        (4, 1_048_576, &[], Status::Done, ""),
+        (5, 1_048_576, &[], Status::TooLarge, "too large: project\n"),
+        (5, 1_048_576, &[6], Status::ReadFault, "read fault: 4.gd\n"),
+        (2, 1, &[1], Status::ReadFault, "read fault: list\n"),
+    ] {
+        let files = blank_files(rt.alloc(), count, bytes)?;
+        let call = Call {
+            words: "check",
+            fails,
+            ..FORTY_TWO
+        };
+        let (ended, written) = answered(rt.alloc(), files, call)?;
+        assert_eq!(rt; written.as_str(), wanted);
         assert!(rt; ended == status);
     }
     Ok(())

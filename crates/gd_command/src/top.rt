@@ -9,6 +9,7 @@ ghost use Rattle.gd_command.specs.declared.answer.Answer.{Answer};
 ghost use Rattle.gd_command.specs.declared.answer.Answer.TheVariants.{Usage as UsageAnswer};
 
 use crate::answer::Answer;
+use crate::check::check;
 use crate::print::print;
 use crate::run::run;
 use crate::status::Status;
@@ -55,6 +56,7 @@ fn decide<H: Shelf>(alloc: Global, words: &[String], shelf: &mut H) -> Result<An
         Err(WordsFault::NoMemory) => return Err(NoMemory),
     };
     match command {
+        Command::Check => check(alloc, shelf),
         Command::Run(main) => run(alloc, main, shelf),
     }
 }

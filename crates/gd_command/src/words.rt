@@ -1,5 +1,5 @@
 //! The words of the command line, read by hand (docs/command-line.md).
-ghost use Rattle.std.specs.Prelude.{◌≡◌, IfOk};
+ghost use Rattle.std.specs.Prelude.{◌≡◌, ◌↔◌, ◌∷◌, [], codes, IfOk, IsTrue};
 ghost use Rattle.gd_command.specs.Words.{Means, words_of};
 ghost use Rattle.gd_command.specs.declared.words.Command.{Command};
 ghost use Rattle.gd_command.specs.declared.words.WordsFault.TheVariants.{NoForm};
@@ -10,6 +10,8 @@ use std::alloc::Global;
 /// What the words ask for.
 #[derive(Drop)]
 pub enum Command {
+    /// `check`: checks the scripts of the project.
+    Check,
     /// `run MAIN`: runs the script with this path.
     Run(Path),
 }
@@ -27,6 +29,9 @@ pub fn read_words(alloc: Global, words: &[String]) -> Result<Command, WordsFault
     ensures means { IfOk result (λ command. Means (words_of words.now) command) }
     ensures no_form { result ≡ Err NoForm → (command : Command) → Means (words_of words.now) command → ⊥ }
 {
+    if is_check(words) {
+        return Ok(Command::Check);
+    }
     let [word, main] = words else {
         return Err(WordsFault::NoForm);
     };
@@ -37,5 +42,15 @@ pub fn read_words(alloc: Global, words: &[String]) -> Result<Command, WordsFault
         Ok(path) => Ok(Command::Run(path)),
         Err(PathFault::Bad) => Err(WordsFault::NoForm),
         Err(PathFault::NoMemory) => Err(WordsFault::NoMemory),
+    }
+}
+
+/// Whether these are the words `check`.
+fn is_check(words: &[String]) -> bool
+    ensures { IsTrue result ↔ (words_of words.now ≡ codes "check" ∷ []) }
+{
+    match words {
+        [only] => only.as_str() == "check",
+        _ => false,
     }
 }

@@ -1,10 +1,13 @@
 use Rattle.std.proofs.Common.{ap, Err, rules}
 use Rattle.gd_command.specs.Words.{words_of}
-use Rattle.gd_command.proofs.CallLemmas.{told-run, told-usage}
+use Rattle.gd_command.proofs.CallLemmas.{told-run, told-check, told-usage}
 use Rattle.gd_command.proofs.top.decide.Goals as goal
 
-pub returns-clause-told : goal.returns-clause-told
-returns-clause-told g c = told-run (g.H.Shelf.files c.args.shelf.now) (words_of c.args.words.now) _ _ c.run.result (search rules) c.run.ensures.told
+pub returns-in-Run-clause-told : goal.returns-in-Run-clause-told
+returns-in-Run-clause-told g c = told-run (g.H.Shelf.files c.args.shelf.now) (words_of c.args.words.now) _ _ c.run.result (search rules) c.run.ensures.told
+
+pub returns-in-Check-clause-told : goal.returns-in-Check-clause-told
+returns-in-Check-clause-told g c = told-check (g.H.Shelf.files c.args.shelf.now) (words_of c.args.words.now) _ c.check.result (search rules) c.check.ensures.told
 
 pub returns-in-Err-NoForm-clause-told : goal.returns-in-Err-NoForm-clause-told
 returns-in-Err-NoForm-clause-told g c = told-usage (g.H.Shelf.files c.args.shelf.now) (words_of c.args.words.now) (c.in-Err-NoForm.ensures.no_form (ap Err c.in-Err-NoForm.field-0-is))
