@@ -12,14 +12,25 @@ use sqlite_items::Items;
 pub fn pattern(cursor: &mut Cursor<'_>) -> Result<Pattern, Stop>
     ensures { Takes cursor.old cursor.new result }
 {
+    nested(cursor)
+}
+
+/// A pattern, which may stand inside another.
+fn nested(cursor: &mut Cursor<'_>) -> Result<Pattern, Stop>
+    ensures { Takes cursor.old cursor.new result }
+{
     let limit = cursor.left();
-    Rules { limit, pattern }.any(cursor)
+    Rules {
+        limit,
+        pattern: nested,
+    }
+    .any(cursor)
 }
 
 /// The rules of patterns. They read the patterns inside by `pattern`, so that each is proved by
 /// itself.
 #[derive(Clone, Copy)]
-struct Rules<F> {
+pub struct Rules<F> {
     /// More than the tokens that are left where a pattern inside begins.
     limit: usize,
     pattern: F,

@@ -2,8 +2,8 @@
 ghost use Rattle.std.specs.Prelude.{◌<◌, IsTrue};
 ghost use Rattle.gd_cursor.specs.Cursor.{left, Keeps, Takes};
 
-use crate::stmt::block;
 use gd_cursor::{Cursor, Edge, Stop};
+use gd_statement::block;
 use gd_syntax::{Accessor, Mark};
 use sqlite_items::Items;
 

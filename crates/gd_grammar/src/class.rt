@@ -4,9 +4,9 @@ ghost use Rattle.gd_cursor.specs.Cursor.{left, Keeps, Takes};
 ghost use Rattle.gd_cursor.specs.Nests.{Nests};
 
 use crate::accessor::{Accessors, props};
-use crate::stmt::block;
 use gd_cursor::{Cursor, Edge, Stop, count};
 use gd_expression::{Role, base, expression, named, notes, parameters, type_name, void};
+use gd_statement::block;
 use gd_syntax::{
     BaseName, ClassDecl, Decl, DeclKind, Expr, FuncDecl, Keyword, Mark, Pos, Seq, Text, TypeName,
     VarDecl,
@@ -47,7 +47,7 @@ fn class_members(cursor: &mut Cursor<'_>) -> Result<Members, Stop>
 /// The rules of declarations. They read the members of classes inside by `members`, so that each is
 /// proved by itself.
 #[derive(Clone, Copy)]
-struct Rules<F> {
+pub struct Rules<F> {
     /// More than the tokens that are left where the members of a class inside begin.
     limit: usize,
     members: F,

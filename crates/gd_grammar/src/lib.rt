@@ -9,8 +9,6 @@ mod accessor;
 mod class;
 mod fault;
 mod script;
-mod simple;
-mod stmt;
 
 pub use fault::SyntaxFault;
 pub use script::parse;

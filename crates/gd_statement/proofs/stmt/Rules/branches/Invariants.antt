@@ -1,6 +1,6 @@
 use Rattle.std.proofs.Common.{◌<◌}
 use Rattle.gd_cursor.specs.Cursor.{left}
-use Rattle.gd_grammar.proofs.stmt.Rules.if_statement.Given as goal
+use Rattle.gd_statement.proofs.stmt.Rules.branches.Given as goal
 
 abbrev pub invariant-branches : goal.invariant-branches
 invariant-branches g l = left l.cursor < left l.fn.cursor

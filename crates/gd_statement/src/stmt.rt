@@ -13,12 +13,23 @@ use sqlite_items::Items;
 pub fn block(cursor: &mut Cursor<'_>) -> Result<Vec<Stmt>, Stop>
     ensures { Takes cursor.old cursor.new result }
 {
+    nested(cursor)
+}
+
+/// A block, which may stand inside another.
+fn nested(cursor: &mut Cursor<'_>) -> Result<Vec<Stmt>, Stop>
+    ensures { Takes cursor.old cursor.new result }
+{
     if !cursor.eat_edge(Edge::Newline) {
         return line(cursor);
     }
     cursor.expect_edge(Edge::Indent)?;
     let limit = cursor.left();
-    Rules { limit, block }.statements(cursor)
+    Rules {
+        limit,
+        block: nested,
+    }
+    .statements(cursor)
 }
 
 /// `simple {";" simple} [";"] NL`
@@ -52,7 +63,7 @@ fn plain(cursor: &mut Cursor<'_>) -> Result<Stmt, Stop>
 
 /// The rules of statements. They read the blocks inside by `block`, so that each is proved by itself.
 #[derive(Clone, Copy)]
-struct Rules<F> {
+pub struct Rules<F> {
     /// More than the tokens that are left where a block inside begins.
     limit: usize,
     block: F,

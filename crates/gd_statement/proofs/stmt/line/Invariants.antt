@@ -1,6 +1,6 @@
 use Rattle.std.proofs.Common.{◌<◌}
 use Rattle.gd_cursor.specs.Cursor.{left}
-use Rattle.gd_grammar.proofs.stmt.line.Given as goal
+use Rattle.gd_statement.proofs.stmt.line.Given as goal
 
 abbrev pub invariant-simple : goal.invariant-simple
 invariant-simple l = left l.cursor < left l.fn.cursor

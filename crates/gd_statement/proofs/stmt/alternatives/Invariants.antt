@@ -1,6 +1,6 @@
 use Rattle.std.proofs.Common.{◌<◌}
 use Rattle.gd_cursor.specs.Cursor.{left}
-use Rattle.gd_grammar.proofs.stmt.alternatives.Given as goal
+use Rattle.gd_statement.proofs.stmt.alternatives.Given as goal
 
 abbrev pub invariant-alternatives : goal.invariant-alternatives
 invariant-alternatives l = left l.cursor < left l.fn.cursor

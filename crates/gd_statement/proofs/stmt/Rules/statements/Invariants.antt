@@ -1,6 +1,6 @@
 use Rattle.std.proofs.Common.{◌<◌}
 use Rattle.gd_cursor.specs.Cursor.{left}
-use Rattle.gd_grammar.proofs.stmt.Rules.statements.Given as goal
+use Rattle.gd_statement.proofs.stmt.Rules.statements.Given as goal
 
 abbrev pub invariant-statements : goal.invariant-statements
 invariant-statements g l = left l.cursor < left l.fn.cursor
