@@ -33,7 +33,7 @@ fn nested(cursor: &mut Cursor<'_>) -> Result<Vec<Stmt>, Stop>
 }
 
 /// `simple {";" simple} [";"] NL`
-fn line(cursor: &mut Cursor<'_>) -> Result<Vec<Stmt>, Stop>
+pub fn line(cursor: &mut Cursor<'_>) -> Result<Vec<Stmt>, Stop>
     ensures { Takes cursor.old cursor.new result }
 {
     let mut found = Vec::new(cursor.alloc);
@@ -183,10 +183,7 @@ impl<F: Fn(&mut Cursor<'_>) -> Result<Vec<Stmt>, Stop>> Rules<F> {
         requires within { left cursor.old ≤ self.now.limit }
         ensures { Takes cursor.old cursor.new result }
     {
-        let subject = expression(cursor)?;
-        cursor.expect(Mark::Colon)?;
-        cursor.expect_edge(Edge::Newline)?;
-        cursor.expect_edge(Edge::Indent)?;
+        let subject = match_subject(cursor)?;
         let branches = Items::from_vec(self.branches(cursor)?);
         Ok(StmtKind::Match(subject, branches))
     }
@@ -220,6 +217,24 @@ impl<F: Fn(&mut Cursor<'_>) -> Result<Vec<Stmt>, Stop>> Rules<F> {
             body,
         })
     }
+}
+
+/// `expr ":" NL Indent`
+fn match_subject(cursor: &mut Cursor<'_>) -> Result<Expr, Stop>
+    ensures { Takes cursor.old cursor.new result }
+{
+    let subject = expression(cursor)?;
+    cursor.expect(Mark::Colon)?;
+    indent(cursor)?;
+    Ok(subject)
+}
+
+/// `NL Indent`
+fn indent(cursor: &mut Cursor<'_>) -> Result<(), Stop>
+    ensures { Takes cursor.old cursor.new result }
+{
+    cursor.expect_edge(Edge::Newline)?;
+    cursor.expect_edge(Edge::Indent)
 }
 
 /// `[":" type]` of a loop's variable.
