@@ -1,2 +1,5 @@
 pub mod Places
+pub mod Prefixes
+pub mod Readings
 pub mod Refusals
+pub mod Widths

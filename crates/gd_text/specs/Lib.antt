@@ -1,3 +1,6 @@
+pub mod Format
 pub mod Number
+pub mod Pattern
+pub mod Reading
 pub mod Search
 pub mod Text

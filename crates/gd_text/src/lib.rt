@@ -7,6 +7,7 @@ mod join;
 mod made;
 mod number;
 mod pattern;
+mod printed;
 mod search;
 #[cfg(test)]
 mod tests;
