@@ -1,13 +1,15 @@
 -- A pattern is read as the pieces that make it, and in no other way.
-use Rattle.std.proofs.Common.{◌≡◌, ◌≢◌, ℕ, zero, suc, ◌+◌, ◌-◌, ◌<◌, ◌≤◌, Bool, true, false, cond, ◌&&◌, ◌||◌, ◌==◌, nat_lt, List, [], ◌∷◌, ◌++◌, length, take, drop, get_or, Option, None, Some, option_map, option_and_then, ◌⊎◌, inl, inr, refl, sym, ap, ◌∙◌, subst, length-append, append_assoc, arith}
+use Rattle.std.proofs.Common.{◌≡◌, ◌≢◌, ℕ, zero, suc, ◌+◌, ◌<◌, ◌≤◌, Bool, true, false, cond, ◌&&◌, ◌||◌, ◌==◌, nat_lt, List, [], ◌∷◌, ◌++◌, length, take, drop, get_or, Option, None, Some, option_map, option_and_then, ◌⊎◌, inl, inr, refl, sym, ap, ◌∙◌, subst, length-append, append_assoc, arith}
 use Rattle.std.specs.Char.{is_ascii_digit}
 use Rattle.std.specs.List.{prefix_len, list_all, slice_get}
 use Rattle.std.proofs.lemmas.Bool.Decides.{nat_tests}
-use Rattle.std.proofs.lemmas.List.{take-append-drop, take_at, drop_at, drop-drop, take_all, drop_all}
+use Rattle.std.proofs.lemmas.List.{take-append-drop, take_at, drop_at}
 use Rattle.std.proofs.lemmas.List.Folds.{length-prefix_len}
 use Rattle.gd_text.specs.Number.{digits_value}
 use Rattle.gd_text.specs.Pattern.{letter_sign, is_flag, count_of, AreFlags, IsWidth, IsConversion, IsWritten, IsPattern}
 use Rattle.gd_text.specs.Reading.{letter_of, are_doubled, with_letter, conversion_of, read_conversion, read_behind, read_piece}
+use Rattle.gd_text.specs.Format.{IsFormatted, text_of}
+use Rattle.gd_text.specs.declared.formatting.Arg.{Arg}
 use Rattle.gd_text.specs.declared.pattern.Letter.{Letter}
 use Rattle.gd_text.specs.declared.pattern.Letter.TheVariants.{Any, Character, Decimal, Octal, LowerHex, UpperHex}
 use Rattle.gd_text.specs.declared.pattern.Conversion.{Conversion}
@@ -339,3 +341,9 @@ one_reading (p ∷ ps) qs a f g =
     let next = goes_on qs a p (length f.0) g read in
     let left : drop (length f.0) a ≡ f.1 = ap (drop (length f.0)) f.2 ∙ drop_at f.0 f.1 (length f.0) refl in
     ap (λ (rs : List Piece). p ∷ rs) (one_reading ps next.0 f.1 f.4 (subst (IsPattern next.0) left next.2)) ∙ sym next.1
+
+-- a pattern gives at most one text with its arguments
+pub one_text : (a : List ℕ) (args : List Arg) (t u : List ℕ) → IsFormatted a args t → IsFormatted a args u → t ≡ u
+one_text a args t u f g =
+    let same : f.pieces ≡ g.pieces = one_reading f.pieces g.pieces a f.are_pieces g.are_pieces in
+    f.text ∙ ap (λ (ps : List Piece). text_of ps args) same ∙ sym g.text

@@ -1,4 +1,4 @@
-use Rattle.std.proofs.Common.{◌≡◌, ℕ, ◌+◌, ◌<◌, ◌≤◌, ◌++◌, ◌∷◌, ◌&&◌, [], Bool, true, false, List, length, get_or, drop, sym, ap, ◌∙◌, subst, append_assoc, length-drop, arith, rules, refl}
+use Rattle.std.proofs.Common.{◌≡◌, ℕ, ◌+◌, ◌<◌, ◌++◌, ◌∷◌, ◌&&◌, [], Bool, true, false, List, length, get_or, drop, sym, ap, ◌∙◌, subst, append_assoc, length-drop, arith, rules}
 use Rattle.std.proofs.lemmas.List.{drop_more}
 use Rattle.gd_text.specs.Format.{all_fit, text_of, shown, takes}
 use Rattle.gd_text.specs.declared.formatting.Arg.{Arg}

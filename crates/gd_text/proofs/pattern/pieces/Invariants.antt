@@ -1,4 +1,4 @@
-use Rattle.std.proofs.Common.{ℕ, ◌≤◌, ◌-◌, ◌++◌, List, length, drop}
+use Rattle.std.proofs.Common.{◌≤◌, ◌-◌, ◌++◌, List, length, drop}
 use Rattle.gd_text.specs.Pattern.{IsPattern}
 use Rattle.gd_text.specs.declared.pattern.Piece.{Piece}
 use Rattle.gd_text.proofs.pattern.pieces.Given as goal
