@@ -1,2 +1,6 @@
+pub mod Digits
 pub mod Places
+pub mod Prefixes
+pub mod Readings
 pub mod Refusals
+pub mod Widths

@@ -1,5 +1,5 @@
 -- What calls on texts give, a text being the list of its code points.
-use Rattle.std.specs.Prelude.{◌≡◌, ⊤, ℕ, suc, ◌-◌, ◌<◌, ◌≤◌, ℤ, pos, negsuc, Bool, nat_le, List, length, take, drop, Option, None, Some, Result, Ok, Err, IsSomeAnd, Vec}
+use Rattle.std.specs.Prelude.{◌≡◌, ⊤, ℕ, suc, ◌+◌, ◌-◌, ◌<◌, ◌≤◌, ℤ, pos, negsuc, Bool, nat_le, List, ◌++◌, length, take, drop, Option, None, Some, Result, Ok, Err, IsSomeAnd, Vec}
 use Rattle.std.specs.declared.alloc.Global.{Global}
 use Rattle.std.specs.List.{repeat, prefix_len, suffix_len}
 use Rattle.gd_syntax.specs.declared.text.TextFault.{TextFault}
@@ -21,6 +21,14 @@ GivesList want (Err TooLong) = 16777216 < length want
 GivesList want (Err NoMemory) = ⊤
 GivesList want (Err OutOfRange) = ⊥
 GivesList want (Err NotUtf8) = ⊥
+
+-- the answer of a call that is to put characters at the end of a text: too long exactly where the limit is passed
+abbrev pub Puts : List ℕ → List ℕ → List ℕ → Result (Unit {0}) TextFault → Type 0
+Puts more old new (Ok u) = (new ≡ old ++ more) × (length new ≤ 16777216)
+Puts more old new (Err TooLong) = 16777216 < length old + length more
+Puts more old new (Err NoMemory) = ⊤
+Puts more old new (Err OutOfRange) = ⊥
+Puts more old new (Err NotUtf8) = ⊥
 
 -- the part of `len` code points from place `from` on, or the rest for a negative `len`
 abbrev pub substr : List ℕ → ℤ → ℤ → Option (List ℕ)

@@ -69,7 +69,7 @@ fn before_point(chars: &[char]) -> &[char]
 }
 
 /// The number that the digits make, modulo 2^64.
-fn digits_value(chars: &[char]) -> u64
+pub fn digits_value(chars: &[char]) -> u64
     ensures { result ≡ spec.digits_value chars.now % 2 ^ 64 }
 {
     let mut value = 0u64;

@@ -1,6 +1,12 @@
 //! The grammar of patterns: characters, `%%`, and conversions of flags, a width and a letter.
-ghost use Rattle.std.specs.Prelude.{◌≡◌, ◌+◌, ◌≤◌, ◌<◌, length, IfSome};
+ghost use Rattle.std.specs.Prelude.{◌≡◌, ◌+◌, ◌≤◌, ◌<◌, nat_lt, length, IfOk, IfSome};
+ghost use Rattle.std.specs.Char.{is_ascii_digit};
+ghost use Rattle.std.specs.List.{prefix_len};
+ghost use Rattle.gd_text.specs.Number as number;
+ghost use Rattle.gd_text.specs.Pattern.{is_flag, count_of, ReadsPattern};
+ghost use Rattle.gd_text.specs.Reading as spec;
 
+use crate::number::digits_value;
 use no_memory::NoMemory;
 use std::alloc::Global;
 
@@ -39,7 +45,9 @@ pub enum Piece {
 }
 
 /// The pieces of the pattern, or `None` where it is none.
-pub fn pieces(alloc: Global, chars: &[char]) -> Result<Option<Vec<Piece>>, NoMemory> {
+pub fn pieces(alloc: Global, chars: &[char]) -> Result<Option<Vec<Piece>>, NoMemory>
+    ensures { IfOk result (ReadsPattern chars.now) }
+{
     let mut all = Vec::new(alloc);
     let mut at = 0;
     while at < chars.len() {
@@ -53,85 +61,118 @@ pub fn pieces(alloc: Global, chars: &[char]) -> Result<Option<Vec<Piece>>, NoMem
 }
 
 /// The piece that the characters begin with, and how many it has.
+#[tactic(auto, unfolding(crate::specs::Reading::read_piece))]
 fn read_piece(chars: &[char]) -> Option<(Piece, usize)>
-    ensures { IfSome result (λ p. (0 < p.1) × (p.1 ≤ length chars.now)) }
+    ensures value { result ≡ spec.read_piece chars.now }
+    ensures within { IfSome result (λ p. (0 < p.1) × (p.1 ≤ length chars.now)) }
 {
     match chars {
-        ['%', '%', ..] => Some((Piece::Plain('%'), 2)),
         ['%', rest @ ..] => {
-            let (conversion, read) = read_conversion(rest)?;
-            Some((Piece::Shown(conversion), read + 1))
+            let (piece, read) = read_behind(rest)?;
+            Some((piece, read + 1))
         }
         [c, ..] => Some((Piece::Plain(*c), 1)),
         [] => None,
     }
 }
 
-/// The conversion that stands behind a `%`, and how many characters it has.
-fn read_conversion(chars: &[char]) -> Option<(Conversion, usize)>
-    ensures { IfSome result (λ p. p.1 ≤ length chars.now) }
+/// The piece of which a `%` has been read, and how many characters it has behind that.
+#[tactic(auto, unfolding(crate::specs::Reading::read_behind))]
+fn read_behind(chars: &[char]) -> Option<(Piece, usize)>
+    ensures value { result ≡ spec.read_behind chars.now }
+    ensures within { IfSome result (λ p. p.1 ≤ length chars.now) }
 {
-    let flags = flag_count(chars);
-    let (minus, plus, zero) = read_flags(&chars[..flags])?;
-    let (width, digits) = read_width(&chars[flags..])?;
-    let letter = read_letter(*chars[flags + digits..].first()?)?;
-    let conversion = Conversion {
-        minus,
-        plus,
-        zero,
-        width,
+    match chars {
+        ['%', ..] => Some((Piece::Plain('%'), 1)),
+        _ => {
+            let (conversion, read) = read_conversion(chars)?;
+            Some((Piece::Shown(conversion), read))
+        }
+    }
+}
+
+/// The conversion that stands behind a `%`, and how many characters it has.
+#[tactic(auto, unfolding(crate::specs::Reading::read_conversion))]
+fn read_conversion(chars: &[char]) -> Option<(Conversion, usize)>
+    ensures value { result ≡ spec.read_conversion chars.now }
+    ensures within { IfSome result (λ p. p.1 ≤ length chars.now) }
+{
+    let (flags, rest) = chars.split_at(flag_count(chars));
+    let (digits, rest) = rest.split_at(digit_count(rest));
+    let conversion = conversion_of(flags, digits, rest)?;
+    Some((conversion, flags.len() + digits.len() + 1))
+}
+
+/// The conversion with these flags, these digits of its width, and the letter that stands behind them.
+#[tactic(auto, unfolding(crate::specs::Reading::conversion_of))]
+fn conversion_of(flags: &[char], digits: &[char], behind: &[char]) -> Option<Conversion>
+    ensures value { result ≡ spec.conversion_of flags.now digits.now behind.now }
+    ensures within { IfSome result (λ c. 0 < length behind.now) }
+{
+    let letter = read_letter(*behind.first()?)?;
+    if are_doubled(flags) || digits.len() > 3 {
+        return None;
+    }
+    Some(Conversion {
+        minus: count_of('-', flags) == 1,
+        plus: count_of('+', flags) == 1,
+        zero: count_of('0', flags) == 1,
+        width: width(digits),
         letter,
-    };
-    Some((conversion, flags + digits + 1))
+    })
 }
 
 /// How many flags stand at the start.
+#[tactic(auto, using(crate::proofs::Prefixes::prefix_counts))]
 fn flag_count(chars: &[char]) -> usize
-    ensures { result ≤ length chars.now }
+    ensures value { result ≡ prefix_len is_flag chars.now }
+    ensures within { result ≤ length chars.now }
 {
-    for (i, c) in chars.iter().enumerate() {
-        if !matches!(*c, '-' | '+' | '0') {
-            return i;
-        }
-    }
-    chars.len()
+    chars.iter().take_while(|c| is_flag(**c)).count()
 }
 
-/// Which of `-`, `+` and `0` are among the flags; `None` where one stands twice.
-fn read_flags(flags: &[char]) -> Option<(bool, bool, bool)> {
-    let (mut minus, mut plus, mut zero) = (false, false, false);
-    for c in flags {
-        let flag = match *c {
-            '-' => &mut minus,
-            '+' => &mut plus,
-            _ => &mut zero,
-        };
-        if *flag {
-            return None;
-        }
-        *flag = true;
-    }
-    Some((minus, plus, zero))
-}
-
-/// The number that up to three digits at the start make, and how many they are; `None` for more digits.
-fn read_width(chars: &[char]) -> Option<(usize, usize)>
-    ensures { IfSome result (λ p. p.1 ≤ length chars.now) }
+/// Whether the character is `-`, `+` or `0`.
+fn is_flag(c: char) -> bool
+    ensures { result ≡ is_flag c }
 {
-    let mut width = 0usize;
-    for (i, c) in chars.iter().enumerate() {
-        let Some(digit) = c.to_digit(10) else {
-            return Some((width, i));
-        };
-        if i == 3 {
-            return None;
-        }
-        width = width.saturating_mul(10).saturating_add(digit as usize);
-    }
-    Some((width, chars.len()))
+    matches!(c, '-' | '+' | '0')
 }
 
-fn read_letter(c: char) -> Option<Letter> {
+/// How many digits stand at the start.
+#[tactic(auto, using(crate::proofs::Prefixes::prefix_counts))]
+fn digit_count(chars: &[char]) -> usize
+    ensures value { result ≡ prefix_len is_ascii_digit chars.now }
+    ensures within { result ≤ length chars.now }
+{
+    chars.iter().take_while(|c| c.is_ascii_digit()).count()
+}
+
+/// Whether a flag stands twice.
+fn are_doubled(flags: &[char]) -> bool
+    ensures { result ≡ spec.are_doubled flags.now }
+{
+    count_of('-', flags) > 1 || count_of('+', flags) > 1 || count_of('0', flags) > 1
+}
+
+/// How often the sign stands among the characters.
+fn count_of(sign: char, chars: &[char]) -> usize
+    ensures { result ≡ count_of sign chars.now }
+{
+    chars.iter().filter(|c| **c == sign).count()
+}
+
+/// The number that up to three digits make.
+#[tactic(auto, using(crate::proofs::Widths::three_digits))]
+fn width(digits: &[char]) -> usize
+    requires { length digits.now ≤ 3 }
+    ensures { result ≡ number.digits_value digits.now }
+{
+    digits_value(digits) as usize
+}
+
+fn read_letter(c: char) -> Option<Letter>
+    ensures { result ≡ spec.letter_of c }
+{
     match c {
         's' => Some(Letter::Any),
         'c' => Some(Letter::Character),

@@ -82,34 +82,50 @@ fn numbers(rt: HostRuntime) -> Result<(), Fail> {
     Ok(())
 }
 
-fn shown(alloc: Global, pattern: &str, arg: Arg) -> Result<Text, FormatFault> {
-    format(alloc, &text(alloc, pattern)?, &[arg])
+fn gives(alloc: Global, pattern: &str, args: &[Arg], wanted: &str) -> bool {
+    match text(alloc, pattern) {
+        Ok(pattern) => match (format(alloc, &pattern, args), text(alloc, wanted)) {
+            (Ok(a), Ok(b)) => a == b,
+            _ => false,
+        },
+        Err(_) => false,
+    }
 }
 
-fn gives(alloc: Global, pattern: &str, arg: Arg, wanted: &str) -> bool {
-    match (shown(alloc, pattern, arg), text(alloc, wanted)) {
-        (Ok(a), Ok(b)) => a == b,
-        _ => false,
+fn is_bad(alloc: Global, pattern: &str, args: &[Arg]) -> bool {
+    match text(alloc, pattern) {
+        Ok(pattern) => matches!(format(alloc, &pattern, args), Err(FormatFault::BadFormat)),
+        Err(_) => false,
     }
 }
 
 #[test]
-fn patterns(rt: HostRuntime) -> Result<(), Fail> {
+fn arguments_go_in_order(rt: HostRuntime) -> Result<(), Fail> {
     let alloc = rt.alloc();
     let args = [Arg::Num(-42), Arg::Str(text(alloc, "ab")?), Arg::Num(7)];
-    let made = format(alloc, &text(alloc, "%05d|%-4s|%+d")?, &args)?;
-    assert!(rt; made == text(alloc, "-0042|ab  |+7")?);
+    assert!(rt; gives(alloc, "%05d|%-4s|%+d", &args, "-0042|ab  |+7"));
+    assert!(rt; gives(alloc, "100%%", &[], "100%"));
+    Ok(())
+}
+
+#[test]
+fn ints_in_patterns(rt: HostRuntime) -> Result<(), Fail> {
+    let alloc = rt.alloc();
     for (pattern, n, wanted) in [
         ("%x%%", 255, "ff%"),
         ("%X", -255, "-FF"),
         ("%o", 8, "10"),
+        ("%x", i64::MIN, "-8000000000000000"),
         ("%-05d|", 7, "7    |"),
-        ("%5s", 7, "    7"),
-        ("%c", 65, "A"),
         ("%+05d", 7, "+0007"),
+        ("%05x", -255, "-00ff"),
+        ("%5s", 7, "    7"),
+        ("%+05s", 7, "    7"),
+        ("%-3c|", 65, "A  |"),
+        ("%c", 0, "\0"),
         ("%s", 0, "0"),
     ] {
-        assert!(rt; gives(alloc, pattern, Arg::Num(n), wanted), "{pattern}");
+        assert!(rt; gives(alloc, pattern, &[Arg::Num(n)], wanted), "{pattern}");
     }
     Ok(())
 }
@@ -128,12 +144,16 @@ fn bad_patterns(rt: HostRuntime) -> Result<(), Fail> {
         ("no conversion", 1),
         ("%d%d", 1),
     ] {
-        let made = shown(alloc, pattern, Arg::Num(n));
-        assert!(rt; matches!(made, Err(FormatFault::BadFormat)), "{pattern}");
+        assert!(rt; is_bad(alloc, pattern, &[Arg::Num(n)]), "{pattern}");
     }
-    let word = Arg::Str(text(alloc, "ab")?);
-    assert!(rt; matches!(shown(alloc, "%c", word), Err(FormatFault::BadFormat)));
-    let other = Arg::Other(text(alloc, "a")?);
-    assert!(rt; matches!(shown(alloc, "%d", other), Err(FormatFault::BadFormat)));
+    Ok(())
+}
+
+#[test]
+fn kinds_that_a_letter_does_not_take(rt: HostRuntime) -> Result<(), Fail> {
+    let alloc = rt.alloc();
+    assert!(rt; is_bad(alloc, "%c", &[Arg::Str(text(alloc, "ab")?)]));
+    assert!(rt; is_bad(alloc, "%d", &[Arg::Other(text(alloc, "true")?)]));
+    assert!(rt; gives(alloc, "%6s", &[Arg::Other(text(alloc, "true")?)], "  true"));
     Ok(())
 }
