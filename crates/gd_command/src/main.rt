@@ -20,9 +20,13 @@ use std::env::Env;
 use std::io::ErrorKind;
 use std::process::ExitCode;
 
+/// How much freed memory the program keeps for itself, in bytes.
+const KEPT: usize = 16 * 1024 * 1024;
+
 /// Runs the words of the command line over the current folder and standard output.
 fn main(rt: HostRuntime) -> ExitCode {
     let alloc = rt.alloc();
+    keep_freed_memory(alloc);
     let words = match words_after_name(&rt, alloc) {
         Ok(words) => words,
         Err(_) => return ExitCode::from(Status::NoMemory as u8),
@@ -35,6 +39,15 @@ fn main(rt: HostRuntime) -> ExitCode {
         Err(_) => Status::WriteFault,
     };
     ExitCode::from(status as u8)
+}
+
+/// Has the C library keep the memory of a script's tokens and tree for the next script.
+///
+/// It gives memory back to the system, page by page, past a limit that it raises to the size of the
+/// largest block that it got back. The block is not written, and so costs no memory.
+fn keep_freed_memory(alloc: Global) {
+    let block: Result<Vec<u8>, AllocError> = Vec::with_capacity(alloc, KEPT);
+    drop(block);
 }
 
 /// The words after the program's name; one empty word where they are not all UTF-8, which is no command.
