@@ -18,14 +18,14 @@ place_some places i h lt is = ap filled (drop_more places i None lt ∙ ap (λ o
 pub place_none : (places : List (Option Handle)) (i : ℕ) → i < length places → get_or places i None ≡ None → filled (drop i places) ≡ filled (drop (i + 1) places)
 place_none places i lt is = ap filled (drop_more places i None lt ∙ ap (λ o. o ∷ drop (i + 1) places) is)
 
-occurrences-cons : (s : ℕ) (h : Handle) (hs : List Handle) → occurrences s (h ∷ hs) ≡ one (eqb h.serial s) + occurrences s hs
+pub occurrences-cons : (s : ℕ) (h : Handle) (hs : List Handle) → occurrences s (h ∷ hs) ≡ one (eqb h.serial s) + occurrences s hs
 occurrences-cons s h hs = sum_by-cons (λ (x : Handle). cond (eqb x.serial s) 1 0) h hs
 
-the_some : {X : Type 0} (o : Option X) → IsSome o → (x : X) × (o ≡ Some x)
+pub the_some : {X : Type 0} (o : Option X) → IsSome o → (x : X) × (o ≡ Some x)
 the_some None some = absurd (cc)
 the_some (Some x) some = (x, refl)
 
-stands_once : (hs : List Handle) (h : Handle) → Contains hs h → 0 < occurrences h.serial hs
+pub stands_once : (hs : List Handle) (h : Handle) → Contains hs h → 0 < occurrences h.serial hs
 stands_once hs h there =
     let mine = ap one (ap (λ (x : Handle). eqb x.serial h.serial) there.2 ∙ eq-eqb h.serial h.serial refl) in
     omega (arith, get_or-le-sum_by (λ (x : Handle). cond (eqb x.serial h.serial) 1 0) hs there.0 h there.1, mine)
@@ -103,7 +103,7 @@ module _ {T : Type 0} where
       (λ _. Enough-filter p hs es enough.1)
 
   -- a held thing is still found without an unheld one
-  found-without : (gone h : Handle) (es : List (Entry T)) (e : Entry T) → 0 < e.count → find_at es h ≡ Some e → find_at (without es gone) h ≡ Some e
+  pub found-without : (gone h : Handle) (es : List (Entry T)) (e : Entry T) → 0 < e.count → find_at es h ≡ Some e → find_at (without es gone) h ≡ Some e
   found-without gone h [] e held found = absurd (cc)
   found-without gone h (x ∷ xs) e held found =
       elim (cases_Bool (is_at h x)) [
@@ -122,7 +122,7 @@ module _ {T : Type 0} where
             (λ _. rest)
       ]
 
-  found_Contains : (h : Handle) (es : List (Entry T)) (e : Entry T) → find_at es h ≡ Some e → Contains es e × (e.serial ≡ h.serial)
+  pub found_Contains : (h : Handle) (es : List (Entry T)) (e : Entry T) → find_at es h ≡ Some e → Contains es e × (e.serial ≡ h.serial)
   found_Contains h [] e found = absurd (cc)
   found_Contains h (x ∷ xs) e found =
       cond_both (is_at h x) (Some x) (find_at xs h)
