@@ -1,13 +1,13 @@
 -- What a thing that is taken out held can be given up.
-use Rattle.std.proofs.Common.{◌≡◌, ℕ, zero, suc, ◌+◌, ◌-◌, ◌<◌, ◌≤◌, Bool, true, false, not, cond, eqb, ◌&&◌, List, [], ◌∷◌, ◌++◌, length, map, Option, Some, None, IsSome, is_some, get_or, drop, refl, sym, ap, ◌∙◌, inl, inr, subst, arith, Contains}
-use Rattle.std.specs.Prelude.{filter, find, count_by, sum_by}
+use Rattle.std.proofs.Common.{◌≡◌, ℕ, suc, ◌+◌, ◌-◌, ◌<◌, ◌≤◌, Bool, false, not, cond, eqb, List, [], ◌∷◌, length, Option, Some, None, IsSome, is_some, get_or, drop, refl, sym, ap, ◌∙◌, inl, inr, subst, arith, Contains}
+use Rattle.std.specs.Prelude.{filter}
 use Rattle.std.specs.Option.{option_map}
-use Rattle.std.proofs.lemmas.Bool.{cond_both, cond-true, cond-false, cases_Bool, and_left, and_right, eq-eqb, not_from_false}
+use Rattle.std.proofs.lemmas.Bool.{cond_both, cond-true, cond-false, cases_Bool, and_right, eq-eqb, not_from_false}
 use Rattle.std.proofs.lemmas.List.{drop_more}
 use Rattle.std.proofs.lemmas.List.Sums.{sum_by-cons, get_or-le-sum_by}
 use Rattle.slot_arena.specs.declared.handle.Handle.{Handle}
-use Rattle.slot_arena.specs.Slots.{Entry, is_at, is_unheld_at, handle_of, find_at, count_at, without, with_count}
-use Rattle.gd_holding.specs.Holding.{occurrences, held_in, filled, IsHeld, IsCounted, CanGiveUp}
+use Rattle.slot_arena.specs.Slots.{Entry, is_at, is_unheld_at, handle_of, find_at, without, with_count}
+use Rattle.gd_holding.specs.Holding.{occurrences, filled, IsCounted, CanGiveUp}
 use Rattle.counted_heap.proofs.Split.{serial_at, index_at}
 use Rattle.counted_heap.proofs.Changes.{one, held_test}
 

@@ -1,21 +1,21 @@
 -- The count of each thing stays the number of its occurrences in things and in the caller's hand.
-use Rattle.std.proofs.Common.{◌≡◌, ◌≢◌, ℕ, zero, suc, ◌+◌, ◌-◌, ◌<◌, ◌≤◌, Bool, true, false, not, cond, eqb, ◌&&◌, List, [], ◌∷◌, ◌++◌, length, map, Option, Some, None, IsSome, is_some, refl, sym, ap, ◌∙◌, inl, inr, subst, arith, Contains, length-append}
-use Rattle.std.specs.Prelude.{filter, find, count_by, sum_by}
+use Rattle.std.proofs.Common.{◌≡◌, ◌≢◌, ℕ, zero, suc, ◌+◌, ◌-◌, ◌<◌, ◌≤◌, Bool, true, false, not, cond, eqb, List, [], ◌∷◌, ◌++◌, length, map, Option, Some, None, IsSome, is_some, refl, sym, ap, ◌∙◌, inl, inr, subst, arith, Contains}
+use Rattle.std.specs.Prelude.{filter, sum_by}
 use Rattle.std.specs.List.{All, AllByRecursion}
 use Rattle.std.specs.List.Sorted.{IsPermutation}
-use Rattle.std.specs.Option.{option_map, option_to_list}
-use Rattle.std.proofs.lemmas.Bool.{cond_both, cond-true, cond-false, cases_Bool, and_left, and_right, and_from, eq-eqb, ne_eqb, eqb-true, not_from_false}
+use Rattle.std.specs.Option.{option_map}
+use Rattle.std.proofs.lemmas.Bool.{cond_both, cond-true, cond-false, cases_Bool, and_right, and_from, eq-eqb, ne_eqb}
 use Rattle.std.proofs.lemmas.List.Elements.{All-from_recursion, recursion_from_All, All-nil, All-cons, All-head, All-tail, All-push, All-contains, All-append, Contains-append_left, Contains-append_right}
-use Rattle.std.proofs.lemmas.List.Sorted.{All-permutation, Contains-permutation, sum_by-IsPermutation}
+use Rattle.std.proofs.lemmas.List.Sorted.{All-permutation, sum_by-IsPermutation}
 use Rattle.std.proofs.lemmas.List.Sums.{sum_by-cons, sum_by-append, sum_by_push, get_or-le-sum_by, count_by-le-length}
 use Rattle.slot_arena.specs.declared.handle.Handle.{Handle}
 use Rattle.slot_arena.specs.Slots.{Entry, is_at, is_unheld_at, handle_of, find_at, count_at, value_at, without, with_count, written_at}
-use Rattle.gd_holding.specs.Holding.{occurrences, held_in, IsHeld, HeldBy, IsCounted, CanGiveUp}
-use Rattle.gd_holding.specs.Rounds.{HeapView, given_up, TakesNext}
+use Rattle.gd_holding.specs.Holding.{occurrences, held_in, IsHeld, HeldBy, IsCounted}
+use Rattle.gd_holding.specs.Rounds.{HeapView, given_up, unheld, TakesNext}
 use Rattle.counted_heap.specs.Heap.{RisesFrom, UpTo, serials}
-use Rattle.counted_heap.proofs.Split.{SplitAt, split, NoneAt, later_none, serial_at, index_at, without-split}
-use Rattle.counted_heap.proofs.Changes.{one, held_test, found_from_count, serials-with_count, RisesFrom-filter}
-use Rattle.counted_heap.proofs.GiveUp.{found-without, found_Contains, found_is, the_some, stands_once, occurrences-cons}
+use Rattle.counted_heap.proofs.Split.{split, NoneAt, later_none, serial_at, without-split}
+use Rattle.counted_heap.proofs.Changes.{one, found_from_count, serials-with_count, RisesFrom-filter}
+use Rattle.counted_heap.proofs.GiveUp.{found-without, found_Contains, the_some, stands_once, occurrences-cons}
 
 occurrences-append : (s : ℕ) (xs ys : List Handle) → occurrences s (xs ++ ys) ≡ occurrences s xs + occurrences s ys
 occurrences-append s xs ys = sum_by-append (λ (h : Handle). cond (eqb h.serial s) 1 0) xs ys
@@ -27,6 +27,10 @@ each_there P (x ∷ xs) each = (each x (0, omega arith, refl), each_there P xs (
 
 each : {X : Type 0} (P : X → Type 0) (xs : List X) → ((x : X) → Contains xs x → P x) → All P xs
 each P xs all = All-from_recursion P xs (each_there P xs all)
+
+positive_from : (n : ℕ) → eqb n 0 ≡ false → 0 < n
+positive_from zero e = absurd (cc)
+positive_from (suc n) e = omega arith
 
 weaker : {X : Type 0} (P Q : X → Type 0) (xs : List X) → ((x : X) → P x → Q x) → AllByRecursion P xs → AllByRecursion Q xs
 weaker P Q [] follows all = tt
@@ -240,11 +244,28 @@ module _ {T : Type 0} (handles : T → List Handle) where
     enough = λ e there. omega (arith, All-contains (λ (x : Entry T). x.count ≡ held_in handles es x.serial + occurrences x.serial hand) es e held.counts there);
   }
 
+  all_counted : (es : List (Entry T)) → unheld es ≡ [] → AllByRecursion (λ (e : Entry T). 0 < e.count) es
+  all_counted [] none = tt
+  all_counted (x ∷ xs) none =
+      elim (cases_Bool (eqb x.count 0)) [
+        | inl zero_is ↦
+            let some : unheld (x ∷ xs) ≡ x.serial ∷ unheld xs = ap (map (λ (y : Entry T). y.serial)) (cond-true (eqb x.count 0) (x ∷ filter (λ (y : Entry T). eqb y.count 0) xs) (filter (λ (y : Entry T). eqb y.count 0) xs) zero_is) in
+            absurd (cc)
+        | inr other ↦
+            let rest : unheld (x ∷ xs) ≡ unheld xs = ap (map (λ (y : Entry T). y.serial)) (cond-false (eqb x.count 0) (x ∷ filter (λ (y : Entry T). eqb y.count 0) xs) (filter (λ (y : Entry T). eqb y.count 0) xs) other) in
+            (positive_from x.count other, all_counted xs (sym rest ∙ none))
+      ]
+
   few_in : (es : List (Entry T)) (s : ℕ) → held_in handles es s ≤ sum_by (λ (e : Entry T). length (handles e.value)) es
   few_in [] s = omega arith
   few_in (x ∷ xs) s =
-      omega (arith, few_in xs s, sum_by-cons (λ (e : Entry T). occurrences s (handles e.value)) x xs, sum_by-cons (λ (e : Entry T). length (handles e.value)) x xs,
-      count_by-le-length (λ (h : Handle). eqb h.serial s) (handles x.value))
+      omega (
+        arith,
+        few_in xs s,
+        sum_by-cons (λ (e : Entry T). occurrences s (handles e.value)) x xs,
+        sum_by-cons (λ (e : Entry T). length (handles e.value)) x xs,
+        count_by-le-length (λ (h : Handle). eqb h.serial s) (handles x.value),
+      )
 
   -- no count is above the number of handles
   pub few_holders : (es : List (Entry T)) (hand : List Handle) (h : Handle) (limit : ℕ) → HeldBy handles es hand → sum_by (λ (e : Entry T). length (handles e.value)) es + length hand < limit → (n : ℕ) → count_at es h ≡ Some n → n < limit
@@ -253,6 +274,13 @@ module _ {T : Type 0} (handles : T → List Handle) where
       let there = (found_Contains h es x.0 x.1).0 in
       let count = All-contains (λ (e : Entry T). e.count ≡ held_in handles es e.serial + occurrences e.serial hand) es x.0 held.counts there in
       omega (arith, count, x.2, few_in es x.0.serial, count_by-le-length (λ (y : Handle). eqb y.serial x.0.serial) hand, few)
+
+  -- where nothing is unheld, each thing is held
+  pub all_held : (es : List (Entry T)) (hand : List Handle) (e : Entry T) → HeldBy handles es hand → unheld es ≡ [] → Contains es e → 0 < held_in handles es e.serial + occurrences e.serial hand
+  all_held es hand e held none there =
+      let count = All-contains (λ (x : Entry T). x.count ≡ held_in handles es x.serial + occurrences x.serial hand) es e held.counts there in
+      let some : 0 < e.count = All-contains (λ (x : Entry T). 0 < x.count) es e (All-from_recursion (λ (x : Entry T). 0 < x.count) es (all_counted es none)) there in
+      omega (arith, count, some)
 
   -- what is in the hand is held
   pub in_hand : (es : List (Entry T)) (hand : List Handle) (h : Handle) → HeldBy handles es hand → Contains hand h → IsHeld es h

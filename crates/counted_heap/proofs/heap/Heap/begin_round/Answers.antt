@@ -1,4 +1,4 @@
-use Rattle.std.proofs.Common.{◌≡◌, List, [], map, length, ap, sym, subst, ◌∙◌, rules, arith}
+use Rattle.std.proofs.Common.{◌≡◌, List, map, length, ap, sym, subst, ◌∙◌, rules}
 use Rattle.std.specs.Prelude.{reverse}
 use Rattle.std.specs.List.Sorted.{IsPermutation}
 use Rattle.slot_arena.specs.declared.handle.Handle.{Handle}

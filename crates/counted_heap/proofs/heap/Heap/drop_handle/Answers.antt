@@ -1,5 +1,5 @@
-use Rattle.std.proofs.Common.{◌≡◌, ℕ, ◌+◌, ◌-◌, ◌<◌, List, ◌∷◌, Some, is_some, ap, sym, ◌∙◌, subst, arith, rules}
-use Rattle.slot_arena.specs.Slots.{Entry, count_at}
+use Rattle.std.proofs.Common.{◌-◌, List, ◌∷◌, ap, sym, subst, arith, rules}
+use Rattle.slot_arena.specs.Slots.{Entry}
 use Rattle.gd_holding.specs.Holding.{HeldBy, filled}
 use Rattle.counted_heap.proofs.Changes.{found_from_count, sound_changed, sound_freed, sound_room}
 use Rattle.counted_heap.proofs.Holders.{held_dropped}

@@ -1,6 +1,5 @@
-use Rattle.std.proofs.Common.{◌≡◌, ℕ, ◌+◌, ◌<◌, ◌^◌, List, ◌∷◌, Some, is_some, ap, sym, ◌∙◌, refl, rules, arith, subst}
-use Rattle.std.specs.Option.{ForSome}
-use Rattle.slot_arena.specs.Slots.{Entry, count_at, find_at}
+use Rattle.std.proofs.Common.{◌+◌, List, ◌∷◌, is_some, ap, sym, ◌∙◌, rules, arith, subst}
+use Rattle.slot_arena.specs.Slots.{Entry, count_at}
 use Rattle.gd_holding.specs.Holding.{HeldBy, filled}
 use Rattle.counted_heap.proofs.Changes.{found_from_count, sound_changed}
 use Rattle.counted_heap.proofs.Holders.{held_kept}

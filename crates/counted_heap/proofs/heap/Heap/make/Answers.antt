@@ -1,4 +1,4 @@
-use Rattle.std.proofs.Common.{◌≡◌, ℕ, ◌+◌, ◌≤◌, List, [], ◌∷◌, ◌++◌, length, subst, ap, sym, ◌∙◌, refl, arith}
+use Rattle.std.proofs.Common.{◌≡◌, ℕ, ◌+◌, List, [], ◌∷◌, ◌++◌, subst, ap, sym, ◌∙◌, refl, arith}
 use Rattle.slot_arena.specs.declared.handle.Handle.{Handle}
 use Rattle.slot_arena.specs.Slots.{Entry, handle_of}
 use Rattle.gd_holding.specs.Holding.{HeldBy, filled}

@@ -1,9 +1,5 @@
-use Rattle.std.proofs.Common.{◌≡◌, Some, ap, sym, subst, ◌∙◌, rules, arith, refl}
-use Rattle.slot_arena.specs.declared.handle.Handle.{Handle}
-use Rattle.slot_arena.specs.Slots.{Entry, find_at, without}
-use Rattle.gd_holding.specs.Holding.{filled, CanGiveUp}
-use Rattle.gd_holding.specs.Rounds.{given_up}
-use Rattle.counted_heap.proofs.GiveUp.{can_settle}
+use Rattle.std.proofs.Common.{ap}
+use Rattle.gd_holding.specs.Holding.{filled}
 use Rattle.counted_heap.proofs.Holders.{held_next}
 use Rattle.counted_heap.proofs.Next.{can_settle_next, takes_next}
 use Rattle.counted_heap.proofs.heap.Heap.settle.Goals as goal
