@@ -1,12 +1,12 @@
 -- What the heap's calls leave of its facts.
-use Rattle.std.proofs.Common.{◌≡◌, ℕ, ◌+◌, ◌-◌, ◌^◌, ◌<◌, ◌≤◌, Bool, true, false, not, cond, eqb, ◌&&◌, List, [], ◌∷◌, ◌++◌, length, map, Option, Some, None, refl, sym, ap, ◌∙◌, subst, arith, length-append}
-use Rattle.std.specs.Prelude.{filter, find, count_by, sum_by}
+use Rattle.std.proofs.Common.{◌≡◌, ℕ, ◌+◌, ◌^◌, ◌<◌, ◌≤◌, Bool, true, false, cond, eqb, ◌&&◌, List, [], ◌∷◌, ◌++◌, length, Option, Some, None, refl, sym, ap, ◌∙◌, subst, arith, length-append}
+use Rattle.std.specs.Prelude.{filter, count_by}
 use Rattle.std.specs.Option.{option_map}
 use Rattle.std.proofs.lemmas.List.Sums.{count_by-le-length, sum_by_push}
-use Rattle.std.proofs.lemmas.Bool.{cond_both, cond-true, cond-false, ne_eqb, and_left, and_right, and_from}
+use Rattle.std.proofs.lemmas.Bool.{cond_both, ne_eqb, and_right}
 use Rattle.slot_arena.specs.declared.handle.Handle.{Handle}
 use Rattle.slot_arena.specs.Slots.{Entry, is_at, is_unheld_at, find_at, count_at, with_count, without}
-use Rattle.counted_heap.specs.Heap.{RisesFrom, UpTo, serials, same_handle, times, has_none, IsSound}
+use Rattle.counted_heap.specs.Heap.{RisesFrom, UpTo, serials, same_handle, has_none, IsSound}
 use Rattle.counted_heap.proofs.Split.{SplitAt, split, with_count-split, without-split, count-middle, count-both, is_at-same, times-push}
 
 -- 1 where the test passes

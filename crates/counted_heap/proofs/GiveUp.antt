@@ -1,13 +1,13 @@
 -- What a thing that is taken out held can be given up.
-use Rattle.std.proofs.Common.{◌≡◌, ℕ, zero, suc, ◌+◌, ◌-◌, ◌<◌, ◌≤◌, Bool, true, false, not, cond, eqb, ◌&&◌, List, [], ◌∷◌, ◌++◌, length, map, Option, Some, None, IsSome, is_some, get_or, drop, refl, sym, ap, ◌∙◌, inl, inr, subst, arith, Contains}
-use Rattle.std.specs.Prelude.{filter, find, count_by, sum_by}
+use Rattle.std.proofs.Common.{◌≡◌, ℕ, suc, ◌+◌, ◌-◌, ◌<◌, ◌≤◌, Bool, false, not, cond, eqb, List, [], ◌∷◌, length, Option, Some, None, IsSome, is_some, get_or, drop, refl, sym, ap, ◌∙◌, inl, inr, subst, arith, Contains}
+use Rattle.std.specs.Prelude.{filter}
 use Rattle.std.specs.Option.{option_map}
-use Rattle.std.proofs.lemmas.Bool.{cond_both, cond-true, cond-false, cases_Bool, and_left, and_right, eq-eqb, not_from_false}
+use Rattle.std.proofs.lemmas.Bool.{cond_both, cond-true, cond-false, cases_Bool, and_right, eq-eqb, not_from_false}
 use Rattle.std.proofs.lemmas.List.{drop_more}
 use Rattle.std.proofs.lemmas.List.Sums.{sum_by-cons, get_or-le-sum_by}
 use Rattle.slot_arena.specs.declared.handle.Handle.{Handle}
-use Rattle.slot_arena.specs.Slots.{Entry, is_at, is_unheld_at, handle_of, find_at, count_at, without, with_count}
-use Rattle.gd_holding.specs.Holding.{occurrences, held_in, filled, IsHeld, IsCounted, CanGiveUp}
+use Rattle.slot_arena.specs.Slots.{Entry, is_at, is_unheld_at, handle_of, find_at, without, with_count}
+use Rattle.gd_holding.specs.Holding.{occurrences, filled, IsCounted, CanGiveUp}
 use Rattle.counted_heap.proofs.Split.{serial_at, index_at}
 use Rattle.counted_heap.proofs.Changes.{one, held_test}
 
@@ -18,14 +18,14 @@ place_some places i h lt is = ap filled (drop_more places i None lt ∙ ap (λ o
 pub place_none : (places : List (Option Handle)) (i : ℕ) → i < length places → get_or places i None ≡ None → filled (drop i places) ≡ filled (drop (i + 1) places)
 place_none places i lt is = ap filled (drop_more places i None lt ∙ ap (λ o. o ∷ drop (i + 1) places) is)
 
-occurrences-cons : (s : ℕ) (h : Handle) (hs : List Handle) → occurrences s (h ∷ hs) ≡ one (eqb h.serial s) + occurrences s hs
+pub occurrences-cons : (s : ℕ) (h : Handle) (hs : List Handle) → occurrences s (h ∷ hs) ≡ one (eqb h.serial s) + occurrences s hs
 occurrences-cons s h hs = sum_by-cons (λ (x : Handle). cond (eqb x.serial s) 1 0) h hs
 
-the_some : {X : Type 0} (o : Option X) → IsSome o → (x : X) × (o ≡ Some x)
+pub the_some : {X : Type 0} (o : Option X) → IsSome o → (x : X) × (o ≡ Some x)
 the_some None some = absurd (cc)
 the_some (Some x) some = (x, refl)
 
-stands_once : (hs : List Handle) (h : Handle) → Contains hs h → 0 < occurrences h.serial hs
+pub stands_once : (hs : List Handle) (h : Handle) → Contains hs h → 0 < occurrences h.serial hs
 stands_once hs h there =
     let mine = ap one (ap (λ (x : Handle). eqb x.serial h.serial) there.2 ∙ eq-eqb h.serial h.serial refl) in
     omega (arith, get_or-le-sum_by (λ (x : Handle). cond (eqb x.serial h.serial) 1 0) hs there.0 h there.1, mine)
@@ -103,7 +103,7 @@ module _ {T : Type 0} where
       (λ _. Enough-filter p hs es enough.1)
 
   -- a held thing is still found without an unheld one
-  found-without : (gone h : Handle) (es : List (Entry T)) (e : Entry T) → 0 < e.count → find_at es h ≡ Some e → find_at (without es gone) h ≡ Some e
+  pub found-without : (gone h : Handle) (es : List (Entry T)) (e : Entry T) → 0 < e.count → find_at es h ≡ Some e → find_at (without es gone) h ≡ Some e
   found-without gone h [] e held found = absurd (cc)
   found-without gone h (x ∷ xs) e held found =
       elim (cases_Bool (is_at h x)) [
@@ -122,7 +122,7 @@ module _ {T : Type 0} where
             (λ _. rest)
       ]
 
-  found_Contains : (h : Handle) (es : List (Entry T)) (e : Entry T) → find_at es h ≡ Some e → Contains es e × (e.serial ≡ h.serial)
+  pub found_Contains : (h : Handle) (es : List (Entry T)) (e : Entry T) → find_at es h ≡ Some e → Contains es e × (e.serial ≡ h.serial)
   found_Contains h [] e found = absurd (cc)
   found_Contains h (x ∷ xs) e found =
       cond_both (is_at h x) (Some x) (find_at xs h)

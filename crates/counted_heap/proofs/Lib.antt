@@ -1,5 +1,6 @@
 pub mod Changes
 pub mod GiveUp
+pub mod Holders
 pub mod Next
 pub mod Order
 pub mod Places

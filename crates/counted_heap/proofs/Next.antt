@@ -1,7 +1,7 @@
 -- One step of settling, of its parts.
-use Rattle.std.proofs.Common.{◌≡◌, ℕ, List, [], ◌∷◌, Option, Some, None, refl, sym, ap, ◌∙◌, subst, arith}
+use Rattle.std.proofs.Common.{◌≡◌, ℕ, List, ◌∷◌, Option, Some, sym, ap, ◌∙◌, subst}
 use Rattle.slot_arena.specs.declared.handle.Handle.{Handle}
-use Rattle.slot_arena.specs.Slots.{Entry, find_at, handle_of, is_at, without}
+use Rattle.slot_arena.specs.Slots.{find_at, handle_of, without}
 use Rattle.gd_holding.specs.Holding.{IsCounted, CanGiveUp}
 use Rattle.gd_holding.specs.Rounds.{HeapView, current_round, given_up, TakesNext}
 use Rattle.counted_heap.specs.Heap.{TakesOut}

@@ -1,13 +1,11 @@
 -- The places of a dictionary, and of a list of values.
-use Rattle.std.proofs.Common.{◌≡◌, ℕ, zero, suc, ◌+◌, ◌*◌, ◌/◌, ◌%◌, ◌<◌, ◌≤◌, List, [], ◌∷◌, length, map, Option, Some, None, get_or, refl, sym, ap, ◌∙◌, arith, cond, ℤ, pos}
+use Rattle.std.proofs.Common.{◌≡◌, ℕ, zero, suc, ◌+◌, ◌*◌, ◌/◌, ◌%◌, ◌<◌, List, [], ◌∷◌, length, map, Some, None, get_or, refl, sym, ap, ◌∙◌, arith, cond, pos}
 use Rattle.std.specs.Prelude.{slice_get, option_and_then}
 use Rattle.std.proofs.lemmas.Option.{get_or_from_slice_get}
-use Rattle.std.proofs.lemmas.List.{get_or-map, length-map}
-use Rattle.std.proofs.lemmas.Bool.{cond-true, lt-ltb}
-use Rattle.slot_arena.specs.declared.handle.Handle.{Handle}
+use Rattle.std.proofs.lemmas.List.{get_or-map}
+use Rattle.std.proofs.lemmas.Bool.{lt-ltb}
 use Rattle.gd_model.specs.declared.value.Key.{Key}
 use Rattle.gd_model.specs.declared.value.Value.{Value}
-use Rattle.gd_model.specs.Place.{place}
 use Rattle.gd_holding.specs.Handles.{value_handle, key_handle}
 use Rattle.gd_containers.specs.Answers.{item_at}
 use Rattle.counted_heap.specs.Thing.{pair_places}

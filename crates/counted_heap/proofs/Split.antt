@@ -1,11 +1,11 @@
 -- The things before and after the one that a handle names.
-use Rattle.std.proofs.Common.{◌≡◌, ℕ, ◌+◌, ◌<◌, ◌≤◌, Bool, true, false, not, cond, eqb, ◌&&◌, List, [], ◌∷◌, ◌++◌, length, map, Option, Some, None, refl, sym, ap, ◌∙◌, subst, arith, length-append}
-use Rattle.std.specs.Prelude.{filter, find, count_by, sum_by}
+use Rattle.std.proofs.Common.{◌≡◌, ℕ, ◌+◌, ◌≤◌, Bool, true, false, not, cond, eqb, ◌&&◌, List, [], ◌∷◌, ◌++◌, map, Some, refl, sym, ap, ◌∙◌, arith}
+use Rattle.std.specs.Prelude.{filter, count_by}
 use Rattle.std.proofs.lemmas.Bool.{cond_both, cond-true, cond-false, ne_eqb, eqb-true, and_parts, and_left, and_right, and_from, not_from_true, not_from_false}
 use Rattle.std.proofs.lemmas.List.Sums.{sum_by-append, sum_by-cons, sum_by_push}
 use Rattle.slot_arena.specs.declared.handle.Handle.{Handle}
 use Rattle.slot_arena.specs.Slots.{Entry, is_at, is_unheld_at, find_at, with_count, without}
-use Rattle.counted_heap.specs.Heap.{RisesFrom, UpTo, serials, same_handle, times, has_none}
+use Rattle.counted_heap.specs.Heap.{RisesFrom, serials, same_handle, times}
 
 pub times-push : (h : Handle) (xs : List Handle) (x : Handle) → times h (xs ++ x ∷ []) ≡ times h xs + cond (same_handle h x) 1 0
 times-push h xs x = sum_by_push (λ y. cond (same_handle h y) 1 0) xs x

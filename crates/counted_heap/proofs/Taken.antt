@@ -1,6 +1,6 @@
 -- The first of the round is taken out; a value is written.
-use Rattle.std.proofs.Common.{◌≡◌, ℕ, zero, suc, ◌+◌, ◌<◌, ◌≤◌, Bool, true, false, not, cond, eqb, ◌&&◌, List, [], ◌∷◌, ◌++◌, length, map, Option, Some, None, refl, sym, ap, ◌∙◌, inl, inr, subst, arith, length-append}
-use Rattle.std.specs.Prelude.{filter, find, count_by, reverse}
+use Rattle.std.proofs.Common.{◌≡◌, ℕ, suc, ◌+◌, ◌<◌, ◌≤◌, Bool, true, not, cond, eqb, List, [], ◌∷◌, ◌++◌, length, map, Some, None, refl, sym, ap, ◌∙◌, inl, inr, subst, arith, length-append}
+use Rattle.std.specs.Prelude.{find, count_by, reverse}
 use Rattle.std.specs.Option.{option_map}
 use Rattle.std.specs.List.Sorted.{IsNonDecreasingBy}
 use Rattle.std.proofs.lemmas.Bool.{cond_both, cond-true, cond-false, cases_Bool, and_left, and_right, and_from, and_parts, eqb-true}
@@ -8,7 +8,7 @@ use Rattle.std.proofs.lemmas.List.{reverse-append}
 use Rattle.std.proofs.lemmas.List.Sums.{sum_by-cons}
 use Rattle.slot_arena.specs.declared.handle.Handle.{Handle}
 use Rattle.slot_arena.specs.Slots.{Entry, is_at, is_unheld_at, find_at, unheld_at, without, written_at}
-use Rattle.counted_heap.specs.Heap.{RisesFrom, UpTo, serials, same_handle, times, has_none, IsSound}
+use Rattle.counted_heap.specs.Heap.{RisesFrom, UpTo, serials, times, has_none, IsSound}
 use Rattle.counted_heap.proofs.Split.{NoneAt, later_none, split, serial_at, times-push}
 use Rattle.counted_heap.proofs.Changes.{one, RisesFrom-filter, UpTo-filter, length-filter_le, unheld-less, unheld_at-more}
 use Rattle.counted_heap.proofs.Order.{same_handle-self}

@@ -1,12 +1,12 @@
 -- The next round begins.
-use Rattle.std.proofs.Common.{◌≡◌, ℕ, zero, suc, ◌+◌, ◌<◌, ◌≤◌, List, [], ◌∷◌, ◌++◌, length, map, refl, sym, ap, ◌∙◌, arith, zero-add}
-use Rattle.std.specs.Prelude.{filter, count_by, reverse}
+use Rattle.std.proofs.Common.{◌≡◌, ℕ, List, [], ◌∷◌, length, map, refl, ap, ◌∙◌, arith}
+use Rattle.std.specs.Prelude.{filter, reverse}
 use Rattle.std.specs.List.Sorted.{IsPermutation, IsNonDecreasingBy}
 use Rattle.std.proofs.lemmas.List.Sorted.{IsPermutation-reverse, length_permutation}
 use Rattle.slot_arena.specs.declared.handle.Handle.{Handle}
-use Rattle.slot_arena.specs.Slots.{Entry, is_at, is_unheld_at}
+use Rattle.slot_arena.specs.Slots.{Entry}
 use Rattle.gd_holding.specs.Rounds.{HeapView, unheld}
-use Rattle.counted_heap.specs.Heap.{RisesFrom, serials, times, has_none, IsSound}
+use Rattle.counted_heap.specs.Heap.{times, has_none, IsSound}
 use Rattle.counted_heap.proofs.Changes.{RisesFrom-filter}
 use Rattle.counted_heap.proofs.Order.{slowly, same_order, times-IsPermutation, count-unheld}
 

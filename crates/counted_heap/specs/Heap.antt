@@ -1,5 +1,5 @@
 -- How a heap keeps what waits to be taken out.
-use Rattle.std.specs.Prelude.{ℕ, ◌≡◌, ◌+◌, ◌<◌, ◌≤◌, ◌&&◌, Bool, nat_eq, List, [], ◌∷◌, ◌++◌, map, reverse, count_by, length, Some, ◌^◌}
+use Rattle.std.specs.Prelude.{ℕ, ◌≡◌, ◌+◌, ◌<◌, ◌≤◌, ◌&&◌, Bool, nat_eq, List, [], ◌∷◌, map, reverse, count_by, length, Some, ◌^◌}
 use Rattle.std.specs.List.Sorted.{IsNonDecreasingBy}
 use Rattle.slot_arena.specs.declared.handle.Handle.{Handle}
 use Rattle.slot_arena.specs.Slots.{Entry, is_unheld_at, find_at, without}

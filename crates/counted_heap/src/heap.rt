@@ -1,13 +1,14 @@
 //! The heap: things in slots, with the unheld ones in rounds.
 ghost use Rattle.std.specs.Prelude.{◌≡◌, ℕ, ◌+◌, ◌-◌, ◌^◌, ◌<◌, ◌≤◌, ◌⊎◌, ◌↔◌, List, [], ◌∷◌, ◌++◌, length, map, IfOk, OnErr, IfSome, IfNone, OnOk, IsErrOf, vec_capacity, Some, IsSome, option_copied};
 ghost use Rattle.std.specs.List.Sorted.{IsPermutation, IsNonDecreasingBy};
-ghost use Rattle.std.specs.Option.{ForSome, option_copied_mut};
+ghost use Rattle.std.specs.Option.{ForSome, option_copied_mut, option_to_list};
 ghost use Rattle.std.specs.Borrow.{sem};
-ghost use Rattle.slot_arena.specs.Slots.{Entry, handle_of, find_at, value_at, count_at, with_count, without};
+ghost use Rattle.slot_arena.specs.declared.handle.Handle.{Handle as TheHandle};
+ghost use Rattle.slot_arena.specs.Slots.{Entry, handle_of, find_at, value_at, count_at, with_count, written_at, without};
 ghost use Rattle.gd_holding.specs.Handles.{value_handle};
-ghost use Rattle.gd_holding.specs.Holding.{IsHeld, IsCounted, CanGiveUp, filled, kept, dropped};
+ghost use Rattle.gd_holding.specs.Holding.{IsHeld, AreCounted, IsCounted, CanGiveUp, filled, kept, dropped};
 ghost use Rattle.gd_holding.specs.Rounds.{current_round, given_up, TakesNext};
-ghost use Rattle.counted_heap.specs.Heap.{TakesOut};
+ghost use Rattle.counted_heap.specs.Heap.{TakesOut, RisesFrom, serials};
 
 use crate::sort::sort_falling;
 use gd_containers::ThingFault;
@@ -68,6 +69,7 @@ impl<T: Holds, S: Slots<T>> Heap<T, S> {
         ensures things { result.things ≡ [] }
         ensures round { result.round ≡ [] }
         ensures made { result.made ≡ 0 }
+        ensures holders { AreCounted T.places result.things [] }
     {
         Heap {
             slots,
@@ -93,6 +95,17 @@ impl<T: Holds, S: Slots<T>> Heap<T, S> {
         self.slots.get_mut(h)
     }
 
+    /// A law of `write`: where the thing that the handle names gets another value, and handles only pass between it and
+    /// the caller's hand, each count stays the number of occurrences. It does nothing when it runs.
+    pub fn write_law(&self, h: Handle)
+        ensures { ForSome (value_at self.now.things h) (λ was. (value : T) (hand : List TheHandle) (left : List TheHandle)
+            → IsPermutation (filled (T.places was) ++ hand) (filled (T.places value) ++ left)
+            → AreCounted T.places self.now.things hand → AreCounted T.places (written_at self.now.things h value) left) }
+    {
+        // The read opens the heap, whose things have rising serial numbers.
+        let _made = self.made;
+    }
+
     /// The handles of the things that are alive, by rising serial number.
     pub fn entries(&self, alloc: Global) -> Result<Vec<Handle>, NoMemory>
         ensures all { IfOk result (λ v. IsPermutation (map handle_of self.now.things) v.items) }
@@ -110,6 +123,8 @@ impl<T: Holds, S: Slots<T>> Heap<T, S> {
         ensures things { IfOk result (λ h. self.new.things ≡ self.old.things ++ record { index = h.index; serial = h.serial; count = 1; value = t } ∷ []) }
         ensures round { OnOk result (self.new.round ≡ self.old.round) }
         ensures made { OnOk result (self.new.made ≡ self.old.made + 1) }
+        ensures holders { IfOk result (λ h. (hand : List TheHandle) → AreCounted T.places self.old.things (filled (T.places t) ++ hand)
+            → AreCounted T.places self.new.things (h ∷ hand)) }
     {
         let alive = self.slots.len();
         if alive >= MAX_ALIVE || self.made >= MAX_MADE {
@@ -126,7 +141,9 @@ impl<T: Holds, S: Slots<T>> Heap<T, S> {
     pub fn keep<L: Ledger>(&mut self, v: &Value, steps: &mut Steps<L>)
         requires held { ForSome (value_handle v.now) (λ h. IsHeld self.old.things h) }
         requires below { ForSome (value_handle v.now) (λ h. ForSome (count_at self.old.things h) (λ n. n < 2 ^ 127)) }
-        ensures { self.new ≡ record self.old { things = kept self.old.things (value_handle v.now) } }
+        ensures counted { self.new ≡ record self.old { things = kept self.old.things (value_handle v.now) } }
+        ensures holders { (hand : List TheHandle) → AreCounted T.places self.old.things hand
+            → AreCounted T.places self.new.things (option_to_list (value_handle v.now) ++ hand) }
     {
         if let Some(h) = handle_in(v) {
             self.keep_handle(h, steps);
@@ -136,7 +153,9 @@ impl<T: Holds, S: Slots<T>> Heap<T, S> {
     /// One less holds what a value names. What nothing holds any more waits for the next round.
     pub fn drop_value<L: Ledger>(&mut self, v: &Value, steps: &mut Steps<L>)
         requires held { ForSome (value_handle v.now) (λ h. IsHeld self.old.things h) }
-        ensures { self.new ≡ record self.old { things = dropped self.old.things (value_handle v.now) } }
+        ensures counted { self.new ≡ record self.old { things = dropped self.old.things (value_handle v.now) } }
+        ensures holders { (hand : List TheHandle) → AreCounted T.places self.old.things (option_to_list (value_handle v.now) ++ hand)
+            → AreCounted T.places self.new.things hand }
     {
         if let Some(h) = handle_in(v) {
             self.drop_handle(h, steps);
@@ -147,7 +166,9 @@ impl<T: Holds, S: Slots<T>> Heap<T, S> {
     fn keep_handle<L: Ledger>(&mut self, h: Handle, steps: &mut Steps<L>)
         requires held { IsHeld self.old.things h }
         requires below { ForSome (count_at self.old.things h) (λ n. n < 2 ^ 127) }
-        ensures { self.new ≡ record self.old { things = with_count (λ n. n + 1) self.old.things h } }
+        ensures counted { self.new ≡ record self.old { things = with_count (λ n. n + 1) self.old.things h } }
+        ensures holders { (hand : List TheHandle) → AreCounted T.places self.old.things hand
+            → AreCounted T.places self.new.things (h ∷ hand) }
     {
         self.slots.keep(h, steps);
     }
@@ -155,7 +176,9 @@ impl<T: Holds, S: Slots<T>> Heap<T, S> {
     // One less holds the thing that a handle names.
     fn drop_handle<L: Ledger>(&mut self, h: Handle, steps: &mut Steps<L>)
         requires { IsHeld self.old.things h }
-        ensures { self.new ≡ record self.old { things = with_count (λ n. n - 1) self.old.things h } }
+        ensures counted { self.new ≡ record self.old { things = with_count (λ n. n - 1) self.old.things h } }
+        ensures holders { (hand : List TheHandle) → AreCounted T.places self.old.things (h ∷ hand)
+            → AreCounted T.places self.new.things hand }
     {
         if self.slots.drop_one(h, steps) == 0 {
             self.waiting.push_reserved(h);
@@ -169,6 +192,8 @@ impl<T: Holds, S: Slots<T>> Heap<T, S> {
         requires { IsCounted (λ t. filled (T.places t)) self.old.things }
         ensures none { IfNone result ((current_round self.old ≡ []) × (self.new ≡ self.old)) }
         ensures some { IfSome result (λ r. TakesNext (λ t. filled (T.places t)) T.class self.old r.0 r.1 self.new) }
+        ensures holders { (hand : List TheHandle) → AreCounted T.places self.old.things hand
+            → AreCounted T.places self.new.things hand }
     {
         self.begin_round();
         let (h, thing) = self.take_out(steps)?;
@@ -200,7 +225,8 @@ impl<T: Holds, S: Slots<T>> Heap<T, S> {
 
     // Begins the next round, of all that nothing holds, where the running one is at its end.
     fn begin_round(&mut self)
-        ensures { self.new ≡ record self.old { round = current_round self.old } }
+        ensures rising { RisesFrom 0 (serials self.old.things) }
+        ensures round { self.new ≡ record self.old { round = current_round self.old } }
     {
         if self.round.is_empty() {
             mem::swap(&mut self.round, &mut self.waiting);

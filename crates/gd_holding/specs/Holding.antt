@@ -1,5 +1,5 @@
 -- How often a thing is held.
-use Rattle.std.specs.Prelude.{ℕ, ◌≡◌, ◌+◌, ◌-◌, ◌<◌, ◌≤◌, ◌==◌, List, [], ◌∷◌, Option, Some, None, IsSome, sum_by, count_by, Contains, filter_map}
+use Rattle.std.specs.Prelude.{ℕ, ◌≡◌, ◌+◌, ◌-◌, ◌<◌, ◌≤◌, ◌==◌, List, [], ◌∷◌, Option, Some, None, IsSome, sum_by, count_by, All, Contains, filter_map}
 use Rattle.slot_arena.specs.declared.handle.Handle.{Handle}
 use Rattle.slot_arena.specs.Slots.{Entry, find_at, count_at, with_count}
 
@@ -32,10 +32,12 @@ module _ {T : Type 0} (handles : T → List Handle) where
   abbrev pub held_in : List (Entry T) → ℕ → ℕ
   held_in es serial = sum_by (λ e. occurrences serial (handles e.value)) es
 
-  -- the count of each thing is the number of its occurrences in things and in the caller's hand
-  abbrev pub CountsHold : List (Entry T) → List Handle → Type 0
-  CountsHold es hand = (e : Entry T) → Contains es e
-      → e.count ≡ held_in es e.serial + occurrences e.serial hand
+  -- the count of each thing is the number of its occurrences in things and in the caller's hand, and each handle in
+  -- either names a thing that is alive
+  pub record HeldBy (es : List (Entry T)) (hand : List Handle) : Type 0 where
+    pub counts : All (λ e. e.count ≡ held_in es e.serial + occurrences e.serial hand) es
+    pub alive : All (λ e. All (λ h. IsSome (find_at es h)) (handles e.value)) es
+    pub hand_alive : All (λ h. IsSome (find_at es h)) hand
 
   -- each handle in a thing names one that is alive, and no count is below the number of
   -- occurrences in things
@@ -48,3 +50,8 @@ module _ {T : Type 0} where
   abbrev pub CanGiveUp : List (Entry T) → List Handle → Type 0
   CanGiveUp es [] = Unit {0}
   CanGiveUp es (h ∷ hs) = IsHeld es h × CanGiveUp (with_count (λ n. n - 1) es h) hs
+
+module _ {T : Type 0} (places : T → List (Option Handle)) where
+  -- each thing's count is the number of its occurrences in the places of things and in the caller's hand
+  abbrev pub AreCounted : List (Entry T) → List Handle → Type 0
+  AreCounted es hand = HeldBy (λ t. filled (places t)) es hand

@@ -1,5 +1,5 @@
 -- How unheld things are taken out, in rounds.
-use Rattle.std.specs.Prelude.{ℕ, ◌≡◌, ◌+◌, ◌-◌, ◌==◌, List, [], ◌∷◌, Option, Some, map, filter, refl}
+use Rattle.std.specs.Prelude.{ℕ, ◌≡◌, ◌-◌, ◌==◌, List, [], ◌∷◌, Option, Some, map, filter, refl}
 use Rattle.std.specs.Coded.{Coded, code_by, coded×, coded_ℕ, coded_list}
 use Rattle.slot_arena.specs.declared.handle.Handle.{Handle}
 use Rattle.slot_arena.specs.Slots.{Entry, entry_code, handle_of, find_at, with_count, without}

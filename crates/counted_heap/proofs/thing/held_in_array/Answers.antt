@@ -1,4 +1,4 @@
-use Rattle.std.proofs.Common.{◌≡◌, ◌<◌, ◌^◌, ℤ, None, Some, arith, sym, ap, ◌∙◌, w64}
+use Rattle.std.proofs.Common.{◌<◌, ◌^◌, ℤ, arith, sym, ap, ◌∙◌, w64}
 use Rattle.std.proofs.lemmas.Int.{ints, to_z_pos}
 use Rattle.gd_containers.specs.Answers.{item_at}
 use Rattle.counted_heap.proofs.Places.{item_place, item_there}

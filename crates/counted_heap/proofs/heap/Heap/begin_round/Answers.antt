@@ -1,4 +1,4 @@
-use Rattle.std.proofs.Common.{◌≡◌, List, [], map, length, ap, sym, subst, ◌∙◌, rules, arith}
+use Rattle.std.proofs.Common.{◌≡◌, List, map, length, ap, sym, subst, ◌∙◌, rules}
 use Rattle.std.specs.Prelude.{reverse}
 use Rattle.std.specs.List.Sorted.{IsPermutation}
 use Rattle.slot_arena.specs.declared.handle.Handle.{Handle}
@@ -13,8 +13,8 @@ invariant_of-self g c =
     rw (c.swap.ensures.y_after, c.sort_falling.ensures.capacity, c.swap.ensures.x_after)
     (sound_turned c.self.invariant (nothing _ none) c.sort_falling.new.handles.items moved c.sort_falling.ensures.falling)
 
-pub returns-then-is_empty : goal.returns-then-is_empty
-returns-then-is_empty g c =
+pub returns-then-is_empty-clause-round : goal.returns-then-is_empty-clause-round
+returns-then-is_empty-clause-round g c =
     let none : length c.self.inside.round.items ≡ 0 = search rules in
     let moved = subst (λ (v : _). IsPermutation v.items c.sort_falling.new.handles.items) c.swap.ensures.x_after c.sort_falling.ensures.all in
     let turned = turned_round c.self.invariant (nothing _ none) c.sort_falling.new.handles.items moved c.sort_falling.ensures.falling in

@@ -1,4 +1,4 @@
-use Rattle.std.proofs.Common.{◌≡◌, Some, ap, sym, ◌∙◌, rules, arith, refl}
+use Rattle.std.proofs.Common.{◌≡◌, Some, sym, ◌∙◌, rules, arith, refl}
 use Rattle.counted_heap.proofs.Taken.{first_unheld, sound_taken, first_serial}
 use Rattle.counted_heap.proofs.heap.Heap.take_out.Goals as goal
 

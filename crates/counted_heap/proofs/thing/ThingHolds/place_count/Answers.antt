@@ -1,4 +1,4 @@
-use Rattle.std.proofs.Common.{sym, ◌∙◌, arith}
+use Rattle.std.proofs.Common.{arith}
 use Rattle.counted_heap.proofs.Places.{length-pair_places}
 use Rattle.counted_heap.proofs.thing.ThingHolds.place_count.Goals as goal
 
