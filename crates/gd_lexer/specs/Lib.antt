@@ -2,6 +2,7 @@ pub mod Glyphs
 pub mod Cursor
 pub mod CursorView
 pub mod Follows
+pub mod Name
 pub mod Number
 pub mod Lexical
 pub mod LexFaults

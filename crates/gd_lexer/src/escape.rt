@@ -4,7 +4,7 @@ ghost use Rattle.gd_lexer.specs.Escape as spec;
 ghost use Rattle.gd_lexer.specs.Follows.{Follows};
 
 use crate::cursor::Cursor;
-use crate::glyph::Glyph;
+use gd_lexis::Glyph;
 use crate::quoted::Body;
 use crate::stop::fault_at;
 use gd_model::Rule;

@@ -8,7 +8,7 @@ ghost use Rattle.gd_lexer.specs.Follows.{Follows};
 use crate::brackets::Brackets;
 use crate::cursor::Cursor;
 use crate::found::{Found, Span, Whole};
-use crate::glyph::Glyph;
+use gd_lexis::Glyph;
 use crate::lines::{Blank, Lines};
 use crate::mark::mark;
 use crate::name::{begins_name, read_name};

@@ -4,7 +4,7 @@ ghost use Rattle.gd_lexer.specs.Follows.{Follows};
 
 use crate::cursor::Cursor;
 use crate::escape::escape;
-use crate::glyph::Glyph;
+use gd_lexis::Glyph;
 use crate::stop::{Fault, fault_at};
 use gd_model::Rule;
 use no_memory::NoMemory;

@@ -7,7 +7,9 @@ use Rattle.gd_syntax.specs.declared.token.TokenKind.{TokenKind}
 use Rattle.gd_syntax.specs.declared.token.Mark.{Mark}
 use Rattle.gd_model.specs.declared.rule.Rule.{Rule}
 use Rattle.gd_model.specs.declared.rule.Rule.TheVariants as rules
-use Rattle.gd_lexis.specs.Chars.{Glyph, Char, Bad, IsFile, place_behind}
+use Rattle.gd_lexis.specs.declared.glyph.Glyph.{Glyph}
+use Rattle.gd_lexis.specs.declared.glyph.Glyph.TheVariants.{Char, Bad}
+use Rattle.gd_lexis.specs.Chars.{IsFile, place_behind}
 use Rattle.gd_lexis.specs.Words.{IsFloatName, IsName, GoesOn, mark_text}
 use Rattle.gd_lexis.specs.Numbers.{WritesNumber, WritesDecimal, IsDigit}
 use Rattle.gd_lexis.specs.Strings.{Quote, IsQuote, opening, closing, IsEscape}
