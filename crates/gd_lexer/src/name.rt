@@ -40,6 +40,7 @@ fn goes_on(c: char) -> Option<char>
 }
 
 /// Goes over the characters that go on a name, and adds them to `chars`.
+#[tactic(auto, using(crate::proofs::NameLemmas::name_more, crate::proofs::NameLemmas::name_end, crate::proofs::NameLemmas::after_name_more, crate::proofs::NameLemmas::after_name_end))]
 pub fn read_name(cursor: &mut Cursor, chars: &mut Vec<char>) -> Result<(), NoMemory>
     ensures follows { Follows cursor.old cursor.new }
     ensures chars { OnOk result (chars.new.items ≡ spec.name_behind chars.old.items cursor.old.glyphs) }

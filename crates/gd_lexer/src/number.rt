@@ -109,6 +109,7 @@ fn extend(value: Option<u64>, base: Base, part: Part) -> Option<u64>
     }
 }
 
+#[tactic(auto, using(crate::proofs::NumberLemmas::value_more, crate::proofs::NumberLemmas::value_end, crate::proofs::NumberLemmas::after_digits_more, crate::proofs::NumberLemmas::after_digits_end))]
 /// Goes over the digits from here on, between which single `_` may stand, to the first glyph that does not go on the
 /// number. The answer is its value, or `None` where that is above the greatest integer.
 fn digits(cursor: &mut Cursor, base: Base) -> Option<u64>
@@ -168,6 +169,7 @@ fn has_exponent(cursor: &Cursor) -> bool
 }
 
 /// Reads the number that begins with the next digit, or tells the rule that it breaks.
+#[tactic(auto, using(crate::proofs::NumberLemmas::number_fewer), unfolding(crate::specs::Number::number_at, crate::specs::Number::after_number))]
 pub fn number(cursor: &mut Cursor) -> Result<i64, Rule>
     requires { is_there (digit_at 10 (slice_get cursor.old.glyphs 0)) ≡ true }
     ensures value { result ≡ spec.number_at cursor.old.glyphs }
