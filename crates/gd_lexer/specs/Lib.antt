@@ -13,3 +13,4 @@ pub mod Sound
 pub mod Stops
 pub mod Escape
 pub mod Mark
+pub mod Word
