@@ -3,6 +3,7 @@ pub mod DecodeLemmas
 pub mod StartLemmas
 pub mod NameLemmas
 pub mod NumberLemmas
+pub mod QuotedLemmas
 pub mod CursorLemmas
 pub mod FollowsLemmas
 pub mod FoundLemmas

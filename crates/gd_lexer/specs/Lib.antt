@@ -12,5 +12,6 @@ pub mod Lines
 pub mod Sound
 pub mod Stops
 pub mod Escape
+pub mod Quoted
 pub mod Mark
 pub mod Word

@@ -109,9 +109,9 @@ fn extend(value: Option<u64>, base: Base, part: Part) -> Option<u64>
     }
 }
 
-#[tactic(auto, using(crate::proofs::NumberLemmas::value_more, crate::proofs::NumberLemmas::value_end, crate::proofs::NumberLemmas::after_digits_more, crate::proofs::NumberLemmas::after_digits_end))]
 /// Goes over the digits from here on, between which single `_` may stand, to the first glyph that does not go on the
 /// number. The answer is its value, or `None` where that is above the greatest integer.
+#[tactic(auto, using(crate::proofs::NumberLemmas::value_more, crate::proofs::NumberLemmas::value_end, crate::proofs::NumberLemmas::after_digits_more, crate::proofs::NumberLemmas::after_digits_end))]
 fn digits(cursor: &mut Cursor, base: Base) -> Option<u64>
     ensures value { result ≡ spec.value_behind (Some 0) (radix base) cursor.old.glyphs }
     ensures rest { cursor.new.glyphs ≡ spec.after_digits (radix base) cursor.old.glyphs }
