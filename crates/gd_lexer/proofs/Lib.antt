@@ -4,6 +4,7 @@ pub mod StartLemmas
 pub mod NameLemmas
 pub mod NumberLemmas
 pub mod QuotedLemmas
+pub mod StartsLemmas
 pub mod CursorLemmas
 pub mod FollowsLemmas
 pub mod FoundLemmas

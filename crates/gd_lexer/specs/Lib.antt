@@ -15,3 +15,4 @@ pub mod Escape
 pub mod Quoted
 pub mod Mark
 pub mod Word
+pub mod Start

@@ -1,5 +1,7 @@
 //! The steps over a file.
-ghost use Rattle.std.specs.Prelude.{◌≡◌, ◌<◌, ◌≤◌, ◌+◌, ◌-◌, ◌*◌, OnOk, IfOk, IsTrue, length};
+ghost use Rattle.std.specs.Prelude.{◌≡◌, ◌<◌, ◌≤◌, ◌+◌, ◌-◌, ◌*◌, OnOk, IfOk, IsTrue, Some, length, slice_get};
+ghost use Rattle.gd_lexis.specs.declared.glyph.Glyph.TheVariants.{Char};
+ghost use Rattle.gd_lexer.specs.Start as spec;
 ghost use Rattle.gd_lexer.specs.Lexical.{is_lexical};
 ghost use Rattle.gd_lexer.specs.Found.{IsNotEnd, AreWhole};
 ghost use Rattle.gd_lexer.specs.Sound.{IsSound, IsPlaced, load};
@@ -49,11 +51,13 @@ pub struct Lexer<'a> {
 type Scanned = (TokenKind, Option<Fault>);
 
 /// How a token begins with this character at the cursor, or `None` where none does.
-fn start_of(c: char, cursor: &Cursor) -> Option<Start> {
+fn start_of(c: char, cursor: &Cursor) -> Option<Start>
+    ensures { result ≡ spec.start_by c cursor.now.glyphs }
+{
     if c.is_ascii_digit() {
         return Some(Start::Number);
     }
-    if is_quote(c) || (c == 'r' && (cursor.sees_second('"') || cursor.sees_second('\''))) {
+    if opens_string(c, cursor) {
         return Some(Start::Quoted);
     }
     if begins_name(c) {
@@ -66,7 +70,16 @@ fn start_of(c: char, cursor: &Cursor) -> Option<Start> {
     Some(Start::Mark(mark, count))
 }
 
-fn is_digit(glyph: Option<Glyph>) -> bool {
+/// Whether a string begins with this character at the cursor.
+fn opens_string(c: char, cursor: &Cursor) -> bool
+    ensures { result ≡ spec.opens_string c cursor.now.glyphs }
+{
+    is_quote(c) || (c == 'r' && (cursor.sees_second('"') || cursor.sees_second('\'')))
+}
+
+fn is_digit(glyph: Option<Glyph>) -> bool
+    ensures { result ≡ spec.is_digit glyph }
+{
     match glyph {
         Some(Glyph::Char(c)) => c.is_ascii_digit(),
         _ => false,
@@ -108,6 +121,7 @@ impl<'a> Lexer<'a> {
     /// Goes over the next glyph, and over the token or comment that begins with it.
     fn step(&mut self, glyph: Glyph) -> Result<(), Stop>
         requires sound { IsSound self.old }
+        requires head { Some glyph ≡ slice_get self.old.cursor.glyphs 0 }
         requires more { 0 < length self.old.cursor.glyphs }
         ensures sound { OnOk result (IsSound self.new) }
         ensures follows { Follows self.old.cursor self.new.cursor }
@@ -225,8 +239,11 @@ impl<'a> Lexer<'a> {
         self.lines.end()
     }
 
+    /// Goes over the token that begins with this character, or over a character that begins none.
+    #[tactic(auto, unfolding(crate::specs::Start::start_at))]
     fn other(&mut self, c: char) -> Result<(), Stop>
         requires sound { IsSound self.old }
+        requires head { Some (Char c) ≡ slice_get self.old.cursor.glyphs 0 }
         requires more { 0 < length self.old.cursor.glyphs }
         ensures sound { OnOk result (IsSound self.new) }
         ensures follows { Follows self.old.cursor self.new.cursor }
@@ -241,6 +258,7 @@ impl<'a> Lexer<'a> {
     /// Goes over a token. The faults at its place come by their rules, before those inside it.
     fn token(&mut self, start: Start) -> Result<(), Stop>
         requires sound { IsSound self.old }
+        requires starts { Some start ≡ spec.start_at self.old.cursor.glyphs }
         requires more { 0 < length self.old.cursor.glyphs }
         ensures sound { OnOk result (IsSound self.new) }
         ensures follows { Follows self.old.cursor self.new.cursor }
@@ -313,7 +331,9 @@ impl<'a> Lexer<'a> {
     }
 
     /// Goes over the token that begins so at `pos`.
+    #[tactic(auto, using(crate::proofs::StartsLemmas::number_here))]
     fn scan(&mut self, start: Start, pos: Pos) -> Result<Scanned, Stop>
+        requires starts { Some start ≡ spec.start_at self.old.cursor.glyphs }
         requires line { 1 ≤ pos.line }
         requires column { 1 ≤ pos.column }
         ensures found { self.new.found ≡ self.old.found }
@@ -339,6 +359,7 @@ impl<'a> Lexer<'a> {
 
     /// Goes over a mark of one to three characters.
     fn mark(&mut self, count: u8)
+        ensures rest { self.new.cursor.glyphs ≡ spec.behind_mark count self.old.cursor.glyphs }
         ensures found { self.new.found ≡ self.old.found }
         ensures lines { self.new.lines ≡ self.old.lines }
         ensures follows { Follows self.old.cursor self.new.cursor }

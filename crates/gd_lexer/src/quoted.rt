@@ -1,5 +1,5 @@
 //! Strings.
-ghost use Rattle.std.specs.Prelude.{◌≡◌, ◌<◌, ◌≤◌, ◌-◌, ◌++◌, [], ◌∷◌, IfOk, OnOk, Some, None, length};
+ghost use Rattle.std.specs.Prelude.{◌≡◌, ◌<◌, ◌≤◌, ◌-◌, ◌++◌, ◌==◌, ◌||◌, [], ◌∷◌, IfOk, OnOk, Some, None, length};
 ghost use Rattle.std.specs.Bool.{OnTrue, OnFalse};
 ghost use Rattle.gd_lexer.specs.Escape.{reading_of, seen_fault, or_fault};
 ghost use Rattle.gd_lexer.specs.Escape as steps;
@@ -68,7 +68,9 @@ impl Body {
 }
 
 /// Whether the character opens a string.
-pub fn is_quote(c: char) -> bool {
+pub fn is_quote(c: char) -> bool
+    ensures { result ≡ (c == 34 || c == 39) }
+{
     c == '"' || c == '\''
 }
 
