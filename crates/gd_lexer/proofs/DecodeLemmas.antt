@@ -124,14 +124,14 @@ two_was a [] c h k e = cc
 two_was a (b ∷ bs) c h k was =
     pick _ (continues b) _ None (Some c)
     (λ t e.
-      let r = continues_in b t in
-      let s = scalar_is ((a - 0xC0) * 64 + (b - 0x80)) c e in
-      let same : (a - 0xC0) * 64 + (b - 0x80) ≡ c = s.1 in
-      let low : 128 ≤ c = omega (arith, r.0, r.1) in
-      let high : c < 2048 = omega (arith, r.0, r.1) in
-      let first : 192 + c / 64 ≡ a = omega (arith, r.0, r.1) in
-      let second : 128 + c % 64 ≡ b = omega (arith, r.0, r.1) in
-      (s.0, (bs, rw (encode_2 c low high, first, second) refl)))
+    let r = continues_in b t in
+    let s = scalar_is ((a - 0xC0) * 64 + (b - 0x80)) c e in
+    let same : (a - 0xC0) * 64 + (b - 0x80) ≡ c = s.1 in
+    let low : 128 ≤ c = omega (arith, r.0, r.1) in
+    let high : c < 2048 = omega (arith, r.0, r.1) in
+    let first : 192 + c / 64 ≡ a = omega (arith, r.0, r.1) in
+    let second : 128 + c % 64 ≡ b = omega (arith, r.0, r.1) in
+    (s.0, (bs, rw (encode_2 c low high, first, second) refl)))
     (λ t e. cc) was
 
 three_was : (a : ℕ) (bs : List ℕ) (c : ℕ) → 0xE0 ≤ a → a < 0xF0 → three a bs ≡ Some c → Begins (a ∷ bs) c
@@ -140,18 +140,18 @@ three_was a (b ∷ []) c h k e = cc
 three_was a (b ∷ d ∷ bs) c h k was =
     pick _ (continues b && continues d && nat_le 0x800 (three_code a b d)) _ None (Some c)
     (λ t e.
-      let both = and_parts (continues b && continues d) (nat_le 0x800 (three_code a b d)) t in
-      let two_parts = and_parts (continues b) (continues d) both.0 in
-      let r = continues_in b two_parts.0 in
-      let q = continues_in d two_parts.1 in
-      let s = scalar_is (three_code a b d) c e in
-      let same : (a - 0xE0) * 4096 + (b - 0x80) * 64 + (d - 0x80) ≡ c = s.1 in
-      let low : 2048 ≤ c = omega (arith, leb-true 0x800 (three_code a b d) both.1) in
-      let high : c < 65536 = omega (arith, r.0, r.1, q.0, q.1) in
-      let first : 224 + c / 4096 ≡ a = omega (arith, r.0, r.1, q.0, q.1) in
-      let second : 128 + (c / 64) % 64 ≡ b = omega (arith, r.0, r.1, q.0, q.1) in
-      let third : 128 + c % 64 ≡ d = omega (arith, r.0, r.1, q.0, q.1) in
-      (s.0, (bs, rw (encode_3 c low high, first, second, third) refl)))
+    let both = and_parts (continues b && continues d) (nat_le 0x800 (three_code a b d)) t in
+    let two_parts = and_parts (continues b) (continues d) both.0 in
+    let r = continues_in b two_parts.0 in
+    let q = continues_in d two_parts.1 in
+    let s = scalar_is (three_code a b d) c e in
+    let same : (a - 0xE0) * 4096 + (b - 0x80) * 64 + (d - 0x80) ≡ c = s.1 in
+    let low : 2048 ≤ c = omega (arith, leb-true 0x800 (three_code a b d) both.1) in
+    let high : c < 65536 = omega (arith, r.0, r.1, q.0, q.1) in
+    let first : 224 + c / 4096 ≡ a = omega (arith, r.0, r.1, q.0, q.1) in
+    let second : 128 + (c / 64) % 64 ≡ b = omega (arith, r.0, r.1, q.0, q.1) in
+    let third : 128 + c % 64 ≡ d = omega (arith, r.0, r.1, q.0, q.1) in
+    (s.0, (bs, rw (encode_3 c low high, first, second, third) refl)))
     (λ t e. cc) was
 
 four_was : (a : ℕ) (bs : List ℕ) (c : ℕ) → 0xF0 ≤ a → a < 0xF5 → four a bs ≡ Some c → Begins (a ∷ bs) c
@@ -161,20 +161,20 @@ four_was a (b ∷ d ∷ []) c h k e = cc
 four_was a (b ∷ d ∷ f ∷ bs) c h k was =
     pick _ (continues b && continues d && continues f && nat_le 0x10000 (four_code a b d f)) _ None (Some c)
     (λ t e.
-      let both = and_parts (continues b && continues d && continues f) (nat_le 0x10000 (four_code a b d f)) t in
-      let more = and_parts (continues b && continues d) (continues f) both.0 in
-      let two_parts = and_parts (continues b) (continues d) more.0 in
-      let r = continues_in b two_parts.0 in
-      let q = continues_in d two_parts.1 in
-      let p = continues_in f more.1 in
-      let s = scalar_is (four_code a b d f) c e in
-      let same : (a - 0xF0) * 262144 + (b - 0x80) * 4096 + (d - 0x80) * 64 + (f - 0x80) ≡ c = s.1 in
-      let low : 65536 ≤ c = omega (arith, leb-true 0x10000 (four_code a b d f) both.1) in
-      let first : 240 + c / 262144 ≡ a = omega (arith, r.0, r.1, q.0, q.1, p.0, p.1) in
-      let second : 128 + (c / 4096) % 64 ≡ b = omega (arith, r.0, r.1, q.0, q.1, p.0, p.1) in
-      let third : 128 + (c / 64) % 64 ≡ d = omega (arith, r.0, r.1, q.0, q.1, p.0, p.1) in
-      let fourth : 128 + c % 64 ≡ f = omega (arith, r.0, r.1, q.0, q.1, p.0, p.1) in
-      (s.0, (bs, rw (encode_4 c low, first, second, third, fourth) refl)))
+    let both = and_parts (continues b && continues d && continues f) (nat_le 0x10000 (four_code a b d f)) t in
+    let more = and_parts (continues b && continues d) (continues f) both.0 in
+    let two_parts = and_parts (continues b) (continues d) more.0 in
+    let r = continues_in b two_parts.0 in
+    let q = continues_in d two_parts.1 in
+    let p = continues_in f more.1 in
+    let s = scalar_is (four_code a b d f) c e in
+    let same : (a - 0xF0) * 262144 + (b - 0x80) * 4096 + (d - 0x80) * 64 + (f - 0x80) ≡ c = s.1 in
+    let low : 65536 ≤ c = omega (arith, leb-true 0x10000 (four_code a b d f) both.1) in
+    let first : 240 + c / 262144 ≡ a = omega (arith, r.0, r.1, q.0, q.1, p.0, p.1) in
+    let second : 128 + (c / 4096) % 64 ≡ b = omega (arith, r.0, r.1, q.0, q.1, p.0, p.1) in
+    let third : 128 + (c / 64) % 64 ≡ d = omega (arith, r.0, r.1, q.0, q.1, p.0, p.1) in
+    let fourth : 128 + c % 64 ≡ f = omega (arith, r.0, r.1, q.0, q.1, p.0, p.1) in
+    (s.0, (bs, rw (encode_4 c low, first, second, third, fourth) refl)))
     (λ t e. cc) was
 
 decoded_was : (bs : List ℕ) (c : ℕ) → decoded bs ≡ Some c → Begins bs c
@@ -183,10 +183,10 @@ decoded_was [] c e = cc
 decoded_was (a ∷ bs) c was =
     pick _ (nat_lt a 0x80) (Some a) _ (Some c)
     (λ t e.
-      let same : a ≡ c = cc in
-      let small : c < 128 = omega (arith, ltb-true a 0x80 t) in
-      let scalar : IsScalar c = grind (arith, nat_tests) in
-      (scalar, (bs, rw (encode_1 c small, same) refl)))
+    let same : a ≡ c = cc in
+    let small : c < 128 = omega (arith, ltb-true a 0x80 t) in
+    let scalar : IsScalar c = grind (arith, nat_tests) in
+    (scalar, (bs, rw (encode_1 c small, same) refl)))
     (λ _. pick _ (nat_lt a 0xC2) None _ (Some c) (λ _ e. cc)
     (λ low. pick _ (nat_lt a 0xE0) (two a bs) _ (Some c) (λ t. two_was a bs c (ltb-false a 0xC2 low) (ltb-true a 0xE0 t))
     (λ low. pick _ (nat_lt a 0xF0) (three a bs) _ (Some c) (λ t. three_was a bs c (ltb-false a 0xE0 low) (ltb-true a 0xF0 t))

@@ -108,10 +108,11 @@ Follows-advance s bs rest g w o p q shown first wide fits cut place =
       whole = omega (arith, ap length cut, length-drop w bs);
       later = rw place (later_glyph g p);
       file = rw place (file_glyph g p);
-      place = λ file all h.
-          (h.0 ++ g ∷ [],
-          h.1 ∙ ap (λ t. h.0 ++ t) (head_of bs g first) ∙ sym (append_assoc h.0 (g ∷ []) (glyphs (drop (width g) bs))) ∙ ap (λ t. (h.0 ++ g ∷ []) ++ glyphs t) (sym tail),
-          place ∙ ap (after_glyph g) h.2 ∙ place_more file h.0 g);
+      place = λ file all h. (
+        h.0 ++ g ∷ [],
+        h.1 ∙ ap (λ t. h.0 ++ t) (head_of bs g first) ∙ sym (append_assoc h.0 (g ∷ []) (glyphs (drop (width g) bs))) ∙ ap (λ t. (h.0 ++ g ∷ []) ++ glyphs t) (sym tail),
+        place ∙ ap (after_glyph g) h.2 ∙ place_more file h.0 g,
+      );
     })
 
 pub IsAtMost-same : (p q : Pos) → p ≡ q → IsAtMost p q

@@ -5,9 +5,9 @@ ghost use Rattle.gd_lexer.specs.Escape as spec;
 ghost use Rattle.gd_lexer.specs.Follows.{Follows};
 
 use crate::cursor::Cursor;
-use gd_lexis::Glyph;
 use crate::quoted::Body;
 use crate::stop::fault_at;
+use gd_lexis::Glyph;
 use gd_model::Rule;
 use gd_syntax::Pos;
 use no_memory::NoMemory;

@@ -132,7 +132,10 @@ fn base_of(cursor: &Cursor) -> Base
 {
     if cursor.sees('0') && cursor.sees_second('x') && is_digit(cursor.third(), Base::Hexadecimal) {
         Base::Hexadecimal
-    } else if cursor.sees('0') && cursor.sees_second('b') && is_digit(cursor.third(), Base::Binary) {
+    } else if cursor.sees('0')
+        && cursor.sees_second('b')
+        && is_digit(cursor.third(), Base::Binary)
+    {
         Base::Binary
     } else {
         Base::Decimal

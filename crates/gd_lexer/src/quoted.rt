@@ -9,8 +9,8 @@ ghost use Rattle.gd_lexer.specs.Follows.{Follows};
 
 use crate::cursor::Cursor;
 use crate::escape::escape;
-use gd_lexis::Glyph;
 use crate::stop::{Fault, fault_at};
+use gd_lexis::Glyph;
 use gd_model::Rule;
 use no_memory::NoMemory;
 use std::alloc::Global;
@@ -173,12 +173,7 @@ fn kept(cursor: &mut Cursor, body: &mut Body) -> Result<(), NoMemory>
 }
 
 /// Goes over one glyph between the ends of the string, or over the escape that begins with it.
-fn step(
-    cursor: &mut Cursor,
-    quote: Quote,
-    glyph: Glyph,
-    body: &mut Body,
-) -> Result<(), NoMemory>
+fn step(cursor: &mut Cursor, quote: Quote, glyph: Glyph, body: &mut Body) -> Result<(), NoMemory>
     ensures value { OnOk result (reading_of cursor.new body.new ≡ spec.step_by (spec.is_backslash glyph) quote.is_raw glyph (reading_of cursor.old body.old)) }
     ensures follows { Follows cursor.old cursor.new }
     ensures fewer { OnOk result (length cursor.new.glyphs ≤ length cursor.old.glyphs - 1) }
