@@ -5,6 +5,11 @@ pub mod NameLemmas
 pub mod NumberLemmas
 pub mod QuotedLemmas
 pub mod StartsLemmas
+pub mod Heads
+pub mod FaultMeets
+pub mod WordMeets
+pub mod NameMeets
+pub mod MarkMeets
 pub mod CursorLemmas
 pub mod FollowsLemmas
 pub mod FoundLemmas

@@ -1,5 +1,5 @@
 -- What a beginning says of the glyphs.
-use Rattle.std.proofs.Common.{◌≡◌, ℕ, ◌<◌, ◌≤◌, Bool, true, false, cond, List, [], ◌∷◌, slice_get, refl, ap, sym, ◌∙◌, arith}
+use Rattle.std.proofs.Common.{◌≡◌, ℕ, ◌<◌, ◌≤◌, Bool, true, false, cond, List, [], ◌∷◌, slice_get, drop, refl, ap, sym, ◌∙◌, arith, subst}
 use Rattle.std.proofs.lemmas.Bool.Decides.{nat_tests}
 use Rattle.std.proofs.lemmas.Bool.{lt-ltb}
 use Rattle.std.specs.Prelude.{nat_lt, Option, Some, None, ◌||◌, ◌&&◌, ◌==◌}
@@ -39,3 +39,58 @@ unfolding start_at
 number_here [] e = cc
 number_here (Bad b ∷ gs) e = cc
 number_here (Char c ∷ gs) e = digit_there c (when_number c (Char c ∷ gs) (sym e))
+
+-- where a name begins
+pub record NameHere (c : ℕ) (gs : List Glyph) : Type 0 where
+  pub head : gs ≡ Char c ∷ drop 1 gs
+  pub name : (is_xid_start c || c == 95) ≡ true
+  pub plain : opens_string c gs ≡ false
+
+name_by : (d c : ℕ) (gs : List Glyph) → start_by d (Char d ∷ gs) ≡ Some (starts.Name c) → NameHere c (Char d ∷ gs)
+name_by d c gs e =
+    pick _ (is_ascii_digit d) _ _ _ (λ _ f. cc)
+    (λ _. pick _ (opens_string d (Char d ∷ gs)) _ _ _ (λ _ f. cc)
+    (λ plain. pick _ (is_xid_start d || d == 95) _ _ _
+    (λ name f.
+      let same : d ≡ c = cc in
+      let P : ℕ → Type 0 = λ t. (is_xid_start t || t == 95) ≡ true in
+      let Q : ℕ → Type 0 = λ t. opens_string t (Char d ∷ gs) ≡ false in
+      record { head = rw same refl; name = subst P same name; plain = subst Q same plain })
+    (λ _. pick _ (d == 46 && is_digit (slice_get (Char d ∷ gs) 1)) _ _ _ (λ _ f. cc) (λ _ f. let m = not_marked (mark_at d (Char d ∷ gs)) (starts.Name c) f in cc)))) e
+
+pub name_here : (gs : List Glyph) (c : ℕ) → Some (starts.Name c) ≡ start_at gs → NameHere c gs
+unfolding start_at
+name_here [] c e = cc
+name_here (Bad b ∷ gs) c e = cc
+name_here (Char d ∷ gs) c e = name_by d c gs (sym e)
+
+-- where a mark begins
+pub record MarkHere (m : Mark) (n : ℕ) (gs : List Glyph) : Type 0 where
+  pub c : ℕ
+  pub head : gs ≡ Char c ∷ drop 1 gs
+  pub digits : is_ascii_digit c ≡ false
+  pub opens : opens_string c gs ≡ false
+  pub names : (is_xid_start c || c == 95) ≡ false
+  pub dot : (c == 46 && is_digit (slice_get gs 1)) ≡ false
+  pub mark : mark_at c gs ≡ Some (m, n)
+
+was_marked : (o : Option (Mark × ℕ)) (m : Mark) (n : ℕ) → marked o ≡ Some (starts.Mark m n) → o ≡ Some (m, n)
+was_marked None m n e = cc
+was_marked (Some p) m n e = let first : p.0 ≡ m = cc in let second : p.1 ≡ n = cc in ap (λ (r : Mark × ℕ). Some r) (pair p.0 m p.1 n first second)
+  where
+    pair : (a b : Mark) (i j : ℕ) → a ≡ b → i ≡ j → ◌≡◌ {A = Mark × ℕ} (a, i) (b, j)
+    pair a b i j e f = rw (e, f) refl
+
+mark_by : (d : ℕ) (m : Mark) (n : ℕ) (gs : List Glyph) → start_by d (Char d ∷ gs) ≡ Some (starts.Mark m n) → MarkHere m n (Char d ∷ gs)
+mark_by d m n gs e =
+    pick _ (is_ascii_digit d) _ _ _ (λ _ f. cc)
+    (λ digits. pick _ (opens_string d (Char d ∷ gs)) _ _ _ (λ _ f. cc)
+    (λ opens. pick _ (is_xid_start d || d == 95) _ _ _ (λ _ f. cc)
+    (λ names. pick _ (d == 46 && is_digit (slice_get (Char d ∷ gs) 1)) _ _ _ (λ _ f. cc)
+    (λ dot f. record { c = d; head = refl; digits = digits; opens = opens; names = names; dot = dot; mark = was_marked (mark_at d (Char d ∷ gs)) m n f })))) e
+
+pub mark_here : (gs : List Glyph) (m : Mark) (n : ℕ) → Some (starts.Mark m n) ≡ start_at gs → MarkHere m n gs
+unfolding start_at
+mark_here [] m n e = cc
+mark_here (Bad b ∷ gs) m n e = cc
+mark_here (Char d ∷ gs) m n e = mark_by d m n gs (sym e)

@@ -16,3 +16,4 @@ pub mod Quoted
 pub mod Mark
 pub mod Word
 pub mod Start
+pub mod Token

@@ -1,5 +1,7 @@
 //! The steps over a file.
-ghost use Rattle.std.specs.Prelude.{◌≡◌, ◌<◌, ◌≤◌, ◌+◌, ◌-◌, ◌*◌, OnOk, IfOk, IsTrue, Some, length, slice_get};
+ghost use Rattle.std.specs.Prelude.{◌≡◌, ◌<◌, ◌≤◌, ◌+◌, ◌-◌, ◌*◌, OnOk, IfOk, IfErr, IsTrue, Some, None, length, slice_get};
+ghost use Rattle.gd_lexer.specs.declared.lexer.Start.TheVariants as starts;
+ghost use Rattle.gd_lexer.specs.Token.{IsToken, IsFaultOf};
 ghost use Rattle.gd_lexis.specs.declared.glyph.Glyph.TheVariants.{Char};
 ghost use Rattle.gd_lexer.specs.Start as spec;
 ghost use Rattle.gd_lexer.specs.Lexical.{is_lexical};
@@ -349,16 +351,27 @@ impl<'a> Lexer<'a> {
                 Ok(value) => Ok((TokenKind::Number(value), None)),
                 Err(rule) => Err(stop_at(pos, rule)),
             },
-            Start::Mark(mark, count) => {
-                self.mark(count);
-                Ok((TokenKind::Mark(mark), None))
-            }
+            Start::Mark(mark, count) => Ok((self.mark(mark, count), None)),
             Start::Float => Err(stop_at(pos, Rule::Float)),
         }
     }
 
-    /// Goes over a mark of one to three characters.
-    fn mark(&mut self, count: u8)
+    /// Goes over this mark of so many characters.
+    fn mark(&mut self, mark: Mark, count: u8) -> TokenKind
+        requires starts { Some (starts.Mark mark count) ≡ spec.start_at self.old.cursor.glyphs }
+        ensures token { IsToken result self.old.cursor.glyphs self.new.cursor.glyphs }
+        ensures kind { IsNotEnd result }
+        ensures found { self.new.found ≡ self.old.found }
+        ensures lines { self.new.lines ≡ self.old.lines }
+        ensures follows { Follows self.old.cursor self.new.cursor }
+        ensures fewer { length self.new.cursor.glyphs ≤ length self.old.cursor.glyphs - 1 }
+    {
+        self.advance_by(count);
+        TokenKind::Mark(mark)
+    }
+
+    /// Goes over the characters of a mark, one to three.
+    fn advance_by(&mut self, count: u8)
         ensures rest { self.new.cursor.glyphs ≡ spec.behind_mark count self.old.cursor.glyphs }
         ensures found { self.new.found ≡ self.old.found }
         ensures lines { self.new.lines ≡ self.old.lines }
@@ -373,8 +386,11 @@ impl<'a> Lexer<'a> {
     }
 
     fn name(&mut self, c: char, pos: Pos) -> Result<Scanned, Stop>
+        requires starts { Some (starts.Name c) ≡ spec.start_at self.old.cursor.glyphs }
         requires line { 1 ≤ pos.line }
         requires column { 1 ≤ pos.column }
+        ensures token { IfOk result (λ r. (IsToken r.0 self.old.cursor.glyphs self.new.cursor.glyphs) × (r.1 ≡ None)) }
+        ensures fault { IfErr result (IsFaultOf pos self.old.cursor.glyphs) }
         ensures found { self.new.found ≡ self.old.found }
         ensures lines { self.new.lines ≡ self.old.lines }
         ensures kind { IfOk result (λ r. IsNotEnd r.0) }
@@ -411,7 +427,9 @@ impl<'a> Lexer<'a> {
     }
 
     /// The text of the characters that were read.
-    fn text(&self) -> Result<Text, NoMemory> {
+    fn text(&self) -> Result<Text, NoMemory>
+        ensures { IfOk result (λ t. t ≡ self.now.body.chars.items) }
+    {
         let chars = Vec::from_slice(self.alloc, self.body.chars.as_slice())?;
         match Text::of(chars) {
             Ok(text) => Ok(text),
