@@ -10,6 +10,7 @@ pub mod FaultMeets
 pub mod WordMeets
 pub mod NameMeets
 pub mod MarkMeets
+pub mod NumberMeets
 pub mod CursorLemmas
 pub mod FollowsLemmas
 pub mod FoundLemmas

@@ -39,12 +39,12 @@ fit_if : (gs : List Glyph) (b : Bool) (x y : Option (Mark × ℕ)) → (b ≡ tr
 fit_if gs true x y f g = f refl
 fit_if gs false x y f g = g refl
 
-char_is : (o : Option Glyph) (c : ℕ) → is_char o c ≡ true → o ≡ Some (Char c)
+pub char_is : (o : Option Glyph) (c : ℕ) → is_char o c ≡ true → o ≡ Some (Char c)
 char_is None c e = cc
 char_is (Some (Bad b)) c e = cc
 char_is (Some (Char d)) c e = ap (λ n. Some (Char n)) (eqb-true d c e)
 
-head_seen : (hs : List Glyph) (g : Glyph) → slice_get hs 0 ≡ Some g → hs ≡ g ∷ drop 1 hs
+pub head_seen : (hs : List Glyph) (g : Glyph) → slice_get hs 0 ≡ Some g → hs ≡ g ∷ drop 1 hs
 head_seen [] g e = cc
 head_seen (h ∷ hs) g e = let same : h ≡ g = cc in rw same refl
 

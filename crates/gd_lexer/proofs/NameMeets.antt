@@ -56,7 +56,7 @@ no_longer_name text longer rest l stops more b h =
     let P : List ℕ → Type 0 = λ t. IsName t in
     stops (found.0, goes_on_behind text found.0 found.1.0 l (subst P found.1.1 h), (map Char found.1.0 ++ b.0, found.1.2))
 
-not_digit : (c : ℕ) → begins_name c ≡ true → is_ascii_digit c ≡ true → ⊥
+pub not_digit : (c : ℕ) → begins_name c ≡ true → is_ascii_digit c ≡ true → ⊥
 not_digit c h d =
     let small : (48 ≤ c) × (c ≤ 57) = grind (arith, nat_tests) in
     let ascii = is_xid_start-ascii c (omega (arith, small.0, small.1)) in

@@ -15,7 +15,7 @@ use Rattle.gd_lexer.specs.Number.{digit_at, is_there}
 use Rattle.gd_lexer.specs.Start.{start_at, start_by, start_with, opens_string, is_digit, marked}
 use Rattle.gd_lexer.proofs.DecodeLemmas.{pick, taken}
 
-digit_there : (c : ℕ) → is_ascii_digit c ≡ true → is_there (digit_at 10 (Some (Char c))) ≡ true
+pub digit_there : (c : ℕ) → is_ascii_digit c ≡ true → is_there (digit_at 10 (Some (Char c))) ≡ true
 digit_there c e = let small : digit_value c < 10 = grind (arith, nat_tests) in there (nat_lt (digit_value c) 10) (lt-ltb (digit_value c) 10 small)
   where
     there : (b : Bool) → b ≡ true → is_there (cond b (Some (digit_value c)) None) ≡ true

@@ -333,7 +333,6 @@ impl<'a> Lexer<'a> {
     }
 
     /// Goes over the token that begins so at `pos`.
-    #[tactic(auto, using(crate::proofs::StartsLemmas::number_here))]
     fn scan(&mut self, start: Start, pos: Pos) -> Result<Scanned, Stop>
         requires starts { Some start ≡ spec.start_at self.old.cursor.glyphs }
         requires line { 1 ≤ pos.line }
@@ -347,12 +346,29 @@ impl<'a> Lexer<'a> {
         match start {
             Start::Name(c) => self.name(c, pos),
             Start::Quoted => self.quoted(pos),
-            Start::Number => match number(&mut self.cursor) {
-                Ok(value) => Ok((TokenKind::Number(value), None)),
-                Err(rule) => Err(stop_at(pos, rule)),
-            },
+            Start::Number => self.number(pos),
             Start::Mark(mark, count) => Ok((self.mark(mark, count), None)),
             Start::Float => Err(stop_at(pos, Rule::Float)),
+        }
+    }
+
+    /// Goes over a number.
+    #[tactic(auto, using(crate::proofs::StartsLemmas::number_here))]
+    fn number(&mut self, pos: Pos) -> Result<Scanned, Stop>
+        requires starts { Some starts.Number ≡ spec.start_at self.old.cursor.glyphs }
+        requires line { 1 ≤ pos.line }
+        requires column { 1 ≤ pos.column }
+        ensures token { IfOk result (λ r. (IsToken r.0 self.old.cursor.glyphs self.new.cursor.glyphs) × (r.1 ≡ None)) }
+        ensures fault { IfErr result (IsFaultOf pos self.old.cursor.glyphs) }
+        ensures found { self.new.found ≡ self.old.found }
+        ensures lines { self.new.lines ≡ self.old.lines }
+        ensures kind { IfOk result (λ r. IsNotEnd r.0) }
+        ensures follows { Follows self.old.cursor self.new.cursor }
+        ensures fewer { OnOk result (length self.new.cursor.glyphs ≤ length self.old.cursor.glyphs - 1) }
+    {
+        match number(&mut self.cursor) {
+            Ok(value) => Ok((TokenKind::Number(value), None)),
+            Err(rule) => Err(stop_at(pos, rule)),
         }
     }
 
