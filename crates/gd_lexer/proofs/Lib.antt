@@ -11,6 +11,7 @@ pub mod WordMeets
 pub mod NameMeets
 pub mod MarkMeets
 pub mod NumberMeets
+pub mod EscapeMeets
 pub mod CursorLemmas
 pub mod FollowsLemmas
 pub mod FoundLemmas

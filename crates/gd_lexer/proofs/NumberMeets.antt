@@ -51,7 +51,7 @@ digit_list : ℕ → List Glyph → List ℕ
 digit_list r [] = []
 digit_list r (g ∷ gs) = elim (part_at r (g ∷ gs)) [ None ↦ [] | Some p ↦ value_of p (digit_list r gs) ]
 
-digit_of : (r : ℕ) (o : Option Glyph) (d : ℕ) → digit_at r o ≡ Some d → (c : ℕ) × ((o ≡ Some (Char c)) × IsDigit r c × (d ≡ digit_value c))
+pub digit_of : (r : ℕ) (o : Option Glyph) (d : ℕ) → digit_at r o ≡ Some d → (c : ℕ) × ((o ≡ Some (Char c)) × IsDigit r c × (d ≡ digit_value c))
 digit_of r None d e = cc
 digit_of r (Some (Bad b)) d e = cc
 digit_of r (Some (Char c)) d e = by_test (nat_lt (digit_value c) r) refl e
@@ -60,7 +60,7 @@ digit_of r (Some (Char c)) d e = by_test (nat_lt (digit_value c) r) refl e
     by_test true t f = (c, (refl, ltb-true (digit_value c) r t, cc))
     by_test false t f = cc
 
-digit_known : (r c : ℕ) → IsDigit r c → digit_at r (Some (Char c)) ≡ Some (digit_value c)
+pub digit_known : (r c : ℕ) → IsDigit r c → digit_at r (Some (Char c)) ≡ Some (digit_value c)
 digit_known r c h = rw (lt-ltb (digit_value c) r h) refl
 
 is_there_some : {A : Type 0} (o : Option A) → is_there o ≡ true → (x : A) × (o ≡ Some x)

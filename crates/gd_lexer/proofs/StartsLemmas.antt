@@ -1,7 +1,9 @@
 -- What a beginning says of the glyphs.
-use Rattle.std.proofs.Common.{◌≡◌, ℕ, ◌<◌, ◌≤◌, Bool, true, false, cond, List, [], ◌∷◌, slice_get, drop, refl, ap, sym, ◌∙◌, arith, subst}
+use Rattle.std.proofs.Common.{◌≡◌, ℕ, ◌<◌, ◌≤◌, Bool, true, false, cond, List, [], ◌∷◌, slice_get, drop, refl, ap, sym, ◌∙◌, arith, subst, inl, inr}
 use Rattle.std.proofs.lemmas.Bool.Decides.{nat_tests}
-use Rattle.std.proofs.lemmas.Bool.{lt-ltb}
+use Rattle.std.proofs.lemmas.Bool.{lt-ltb, eqb-true, and_parts}
+use Rattle.gd_model.specs.declared.rule.Rule.TheVariants.{Float}
+use Rattle.gd_lexer.specs.Token.{IsBrokenAt}
 use Rattle.std.specs.Prelude.{nat_lt, Option, Some, None, ◌||◌, ◌&&◌, ◌==◌}
 use Rattle.std.specs.Char.{is_ascii_digit, digit_value}
 use Rattle.unicode_ident.specs.Ident.{is_xid_start}
@@ -94,3 +96,39 @@ unfolding start_at
 mark_here [] m n e = cc
 mark_here (Bad b ∷ gs) m n e = cc
 mark_here (Char d ∷ gs) m n e = mark_by d m n gs (sym e)
+
+-- where a dot stands before a digit
+pub record FloatHere (gs : List Glyph) : Type 0 where
+  pub d : ℕ
+  pub whole : gs ≡ Char 46 ∷ Char d ∷ drop 2 gs
+  pub digit : is_ascii_digit d ≡ true
+
+digit_next : (gs : List Glyph) → is_digit (slice_get gs 0) ≡ true → (d : ℕ) × ((gs ≡ Char d ∷ drop 1 gs) × (is_ascii_digit d ≡ true))
+digit_next [] e = cc
+digit_next (Bad b ∷ gs) e = cc
+digit_next (Char d ∷ gs) e = (d, (refl, e))
+
+float_by : (c : ℕ) (gs : List Glyph) → start_by c (Char c ∷ gs) ≡ Some starts.Float → FloatHere (Char c ∷ gs)
+float_by c gs e =
+    pick _ (is_ascii_digit c) _ _ _ (λ _ f. cc)
+    (λ _. pick _ (opens_string c (Char c ∷ gs)) _ _ _ (λ _ f. cc)
+    (λ _. pick _ (is_xid_start c || c == 95) _ _ _ (λ _ f. cc)
+    (λ _. pick _ (c == 46 && is_digit (slice_get (Char c ∷ gs) 1)) _ _ _
+    (λ both _.
+      let p = and_parts (c == 46) (is_digit (slice_get gs 0)) both in
+      let d = digit_next gs p.1 in
+      let first : c ≡ 46 = eqb-true c 46 p.0 in
+      record { d = d.0; whole = ap (λ n. Char n ∷ gs) first ∙ ap (λ t. Char 46 ∷ t) d.1.0; digit = d.1.1 })
+    (λ _ f. let m = not_marked (mark_at c (Char c ∷ gs)) starts.Float f in cc)))) e
+
+pub float_here : (gs : List Glyph) → Some starts.Float ≡ start_at gs → FloatHere gs
+unfolding start_at
+float_here [] e = cc
+float_here (Bad b ∷ gs) e = cc
+float_here (Char c ∷ gs) e = float_by c gs (sym e)
+
+small_digit : (d : ℕ) → is_ascii_digit d ≡ true → digit_value d < 10
+small_digit d e = grind (arith, nat_tests)
+
+pub float_read : (gs : List Glyph) → Some starts.Float ≡ start_at gs → IsBrokenAt Float gs
+float_read gs e = let here = float_here gs e in λ before. (refl, inr (inl (here.d, small_digit here.d here.digit, (drop 2 gs, here.whole))))

@@ -348,7 +348,7 @@ impl<'a> Lexer<'a> {
             Start::Quoted => self.quoted(pos),
             Start::Number => self.number(pos),
             Start::Mark(mark, count) => Ok((self.mark(mark, count), None)),
-            Start::Float => Err(stop_at(pos, Rule::Float)),
+            Start::Float => Err(self.float(pos)),
         }
     }
 
@@ -370,6 +370,16 @@ impl<'a> Lexer<'a> {
             Ok(value) => Ok((TokenKind::Number(value), None)),
             Err(rule) => Err(stop_at(pos, rule)),
         }
+    }
+
+    /// The fault of a dot before a digit.
+    fn float(&self, pos: Pos) -> Stop
+        requires starts { Some starts.Float ≡ spec.start_at self.now.cursor.glyphs }
+        requires line { 1 ≤ pos.line }
+        requires column { 1 ≤ pos.column }
+        ensures { IsFaultOf pos self.now.cursor.glyphs result }
+    {
+        stop_at(pos, Rule::Float)
     }
 
     /// Goes over this mark of so many characters.
