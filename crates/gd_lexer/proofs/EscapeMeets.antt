@@ -2,7 +2,7 @@
 use Rattle.std.proofs.Common.{◌≡◌, ℕ, zero, suc, ◌+◌, ◌-◌, ◌*◌, ◌<◌, ◌≤◌, Bool, true, false, cond, List, [], ◌∷◌, ◌++◌, length, drop, slice_index, slice_get, map, refl, ap, sym, ◌∙◌, arith, subst, inl, inr, append_assoc, ◌≢◌, length-append}
 use Rattle.std.proofs.lemmas.Bool.Decides.{nat_tests}
 use Rattle.std.proofs.lemmas.Bool.{or_cases, eqb-true, eqb-false, eq-eqb, and_parts, and_cases, ltb-true, ltb-false, lt-ltb, le-ltb, leb-true, leb-false, le-leb}
-use Rattle.std.proofs.lemmas.List.{append-nil, map-append}
+use Rattle.std.proofs.lemmas.List.{append-nil, map-append, append_cancel_left}
 use Rattle.std.proofs.lemmas.List.Elements.{All-push, All-nil, All-head, All-tail, All-cons, All-append}
 use Rattle.std.specs.Prelude.{Option, Some, None, ◌||◌, ◌&&◌, ◌==◌, ◌⊎◌, fold, nat_lt, nat_le, All}
 use Rattle.std.specs.Char.{IsScalar, digit_value}
@@ -13,7 +13,7 @@ use Rattle.gd_lexis.specs.Chars.{place_behind}
 use Rattle.gd_lexis.specs.Strings.{Quote, IsQuote, closing, IsEscape, WritesCode}
 use Rattle.gd_lexis.specs.Strings as strings
 use Rattle.gd_lexis.specs.Pieces.{BeginsWith}
-use Rattle.gd_lexis.specs.Faults.{Inside, plain, taken}
+use Rattle.gd_lexis.specs.Faults.{Inside, nothing, plain, taken}
 use Rattle.gd_lexer.specs.Cursor.{Spot, advanced, advanced_over, after_glyph, sees, is_char}
 use Rattle.gd_lexer.specs.Glyphs.{is_scalar, scalar_of}
 use Rattle.gd_lexer.specs.Number.{digit_at}
@@ -183,11 +183,23 @@ one_code k n m s t ds a w b =
 
 -- ---- what is passed over
 
--- the glyphs can stand anywhere in a string
-abbrev pub Walks : List Glyph → Type 0
-Walks w = (q : Quote) (rest gs : List Glyph) → IsQuote q → Inside q rest gs → Inside q rest (w ++ gs)
+-- what is left of the inside of a string behind its front
+pub record Left (q : Quote) (rest body w : List Glyph) : Type 0 where
+  pub more : List Glyph
+  pub whole : body ≡ w ++ more
+  pub inside : Inside q rest more
 
-not_mark : (q : Quote) (c : ℕ) (gs : List Glyph) → IsQuote q → c ≢ q.mark → BeginsWith (closing q) (Char c ∷ gs) → ⊥
+-- the glyphs can stand before the inside of a string, and an inside that begins with them goes on behind them
+abbrev pub Forth : List Glyph → Type 0
+Forth w = (q : Quote) (rest gs : List Glyph) → IsQuote q → Inside q rest gs → Inside q rest (w ++ gs)
+
+abbrev pub Back : List Glyph → Type 0
+Back w = (q : Quote) (rest body gs : List Glyph) → IsQuote q → body ++ rest ≡ w ++ gs → BeginsWith (closing q) rest → Inside q rest body → Left q rest body w
+
+abbrev pub Walks : List Glyph → Type 0
+Walks w = Forth w × Back w
+
+pub not_mark : (q : Quote) (c : ℕ) (gs : List Glyph) → IsQuote q → c ≢ q.mark → BeginsWith (closing q) (Char c ∷ gs) → ⊥
 not_mark q c gs h differs b =
     let shut = closing_cons q h in
     let shown : Char c ∷ gs ≡ Char q.mark ∷ (map Char shut.0 ++ b.0) = b.1 ∙ ap (λ t. map Char t ++ b.0) shut.1 in
@@ -205,20 +217,57 @@ hex_not_mark q c h hex e = by_mark h.0
 hex_not_slash : (c : ℕ) → IsHex c → c ≡ 92 → ⊥
 hex_not_slash c hex e = let P : ℕ → Type 0 = λ n. digit_value n < 16 in let v = subst P e hex in omega arith
 
-char_not : (c d : ℕ) → (c ≡ d → ⊥) → Char c ≡ Char d → ⊥
+pub char_not : (c d : ℕ) → (c ≡ d → ⊥) → Char c ≡ Char d → ⊥
 char_not c d f e = f cc
 
-pub hex_walks : (cs : List ℕ) → All IsHex cs → Walks (map Char cs)
-hex_walks [] a q rest gs h i = i
-hex_walks (c ∷ cs) a q rest gs h i =
+hex_forth : (cs : List ℕ) → All IsHex cs → Forth (map Char cs)
+hex_forth [] a q rest gs h i = i
+hex_forth (c ∷ cs) a q rest gs h i =
     let hex = All-head IsHex c cs a in
-    plain (Char c) (map Char cs ++ gs) (char_not c 92 (hex_not_slash c hex)) (not_mark q c ((map Char cs ++ gs) ++ rest) h (hex_not_mark q c h hex)) (hex_walks cs (All-tail IsHex c cs a) q rest gs h i)
+    plain (Char c) (map Char cs ++ gs) (char_not c 92 (hex_not_slash c hex)) (not_mark q c ((map Char cs ++ gs) ++ rest) h (hex_not_mark q c h hex)) (hex_forth cs (All-tail IsHex c cs a) q rest gs h i)
+
+-- a plain glyph at which no string ends
+pub plain_back : (q : Quote) (rest body : List Glyph) (g : Glyph) (gs : List Glyph) → g ≢ Char 92 → (BeginsWith (closing q) (g ∷ gs) → ⊥) → body ++ rest ≡ g ∷ gs → BeginsWith (closing q) rest → Inside q rest body
+    → Left q rest body (g ∷ [])
+plain_back q rest body g gs other going e b nothing = let P : List Glyph → Type 0 = λ k. BeginsWith (closing q) k in absurd (going (subst P e b))
+plain_back q rest body g gs other going e b (plain x xs differs going2 i) = let same : x ≡ g = cc in record { more = xs; whole = ap (λ t. t ∷ xs) same; inside = i }
+plain_back q rest body g gs other going e b (taken x xs i) = let same : Char 92 ≡ g = cc in absurd (other (sym same))
+
+hex_back : (cs : List ℕ) → All IsHex cs → Back (map Char cs)
+hex_back [] a q rest body gs h e b i = record { more = body; whole = refl; inside = i }
+hex_back (c ∷ cs) a q rest body gs h e b i =
+    let hex = All-head IsHex c cs a in
+    let one = plain_back q rest body (Char c) (map Char cs ++ gs) (char_not c 92 (hex_not_slash c hex)) (not_mark q c (map Char cs ++ gs) h (hex_not_mark q c h hex)) e b i in
+    let tail : one.more ++ rest ≡ map Char cs ++ gs = let shown : Char c ∷ (one.more ++ rest) ≡ Char c ∷ (map Char cs ++ gs) = ap (λ t. t ++ rest) (sym one.whole) ∙ e in cc in
+    let more = hex_back cs (All-tail IsHex c cs a) q rest one.more gs h tail b one.inside in
+    record { more = more.more; whole = one.whole ∙ ap (λ t. Char c ∷ t) more.whole; inside = more.inside }
+
+pub hex_walks : (cs : List ℕ) → All IsHex cs → Walks (map Char cs)
+hex_walks cs a = (hex_forth cs a, hex_back cs a)
 
 pub then_walks : (v w : List Glyph) → Walks v → Walks w → Walks (v ++ w)
-then_walks v w f g q rest gs h i = let P : List Glyph → Type 0 = λ t. Inside q rest t in subst P (sym (append_assoc v w gs)) (f q rest (w ++ gs) h (g q rest gs h i))
+then_walks v w f g =
+    ((λ q rest gs h i. let P : List Glyph → Type 0 = λ t. Inside q rest t in subst P (sym (append_assoc v w gs)) (f.0 q rest (w ++ gs) h (g.0 q rest gs h i))),
+    (λ q rest body gs h e b i.
+      let one = f.1 q rest body (w ++ gs) h (e ∙ append_assoc v w gs) b i in
+      let tail : one.more ++ rest ≡ w ++ gs = append_cancel_left v (one.more ++ rest) (w ++ gs) (sym (append_assoc v one.more rest) ∙ ap (λ t. t ++ rest) (sym one.whole) ∙ e ∙ append_assoc v w gs) in
+      let two = g.1 q rest one.more gs h tail b one.inside in
+      record { more = two.more; whole = one.whole ∙ ap (λ t. v ++ t) two.whole ∙ sym (append_assoc v w two.more); inside = two.inside }))
+
+slash_not_mark : (q : Quote) → IsQuote q → 92 ≢ q.mark
+slash_not_mark q h = by_mark h.0
+  where
+    by_mark : (q.mark ≡ 34) ⊎ (q.mark ≡ 39) → 92 ≡ q.mark → ⊥
+    by_mark (inl f) e = omega arith
+    by_mark (inr f) e = omega arith
+
+taken_back : (g : Glyph) (q : Quote) (rest body gs : List Glyph) → IsQuote q → body ++ rest ≡ Char 92 ∷ g ∷ gs → BeginsWith (closing q) rest → Inside q rest body → Left q rest body (Char 92 ∷ g ∷ [])
+taken_back g q rest body gs h e b nothing = let P : List Glyph → Type 0 = λ k. BeginsWith (closing q) k in absurd (not_mark q 92 (g ∷ gs) h (slash_not_mark q h) (subst P e b))
+taken_back g q rest body gs h e b (plain x xs differs going i) = let same : x ≡ Char 92 = cc in absurd (differs same)
+taken_back g q rest body gs h e b (taken x xs i) = let same : x ≡ g = cc in record { more = xs; whole = ap (λ t. Char 92 ∷ t ∷ xs) same; inside = i }
 
 pub taken_walks : (g : Glyph) → Walks (Char 92 ∷ g ∷ [])
-taken_walks g q rest gs h i = taken g gs i
+taken_walks g = ((λ q rest gs h i. taken g gs i), taken_back g)
 
 -- ---- the escapes
 

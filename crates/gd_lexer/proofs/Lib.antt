@@ -12,6 +12,7 @@ pub mod NameMeets
 pub mod MarkMeets
 pub mod NumberMeets
 pub mod EscapeMeets
+pub mod StringMeets
 pub mod CursorLemmas
 pub mod FollowsLemmas
 pub mod FoundLemmas
