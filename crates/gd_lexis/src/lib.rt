@@ -5,11 +5,16 @@
 ghost use Rattle.std.specs.Prelude.{◌≡◌, List, ℕ};
 ghost use Rattle.gd_syntax.specs.declared.token.Keyword.{Keyword};
 ghost use Rattle.gd_syntax.specs.declared.token.Mark.{Mark};
-ghost use Rattle.gd_lexis.specs.Chars.{Glyph, Reads};
+ghost use Rattle.gd_lexis.specs.declared.glyph.Glyph.{Glyph};
+ghost use Rattle.gd_lexis.specs.Chars.{Reads};
 ghost use Rattle.gd_syntax.specs.declared.pos.Pos.{Pos};
 ghost use Rattle.gd_model.specs.declared.rule.Rule.{Rule};
 ghost use Rattle.gd_lexis.specs.Words.{keyword_text, mark_text};
 ghost use Rattle.gd_lexis.specs.Faults.{FirstFault, number};
+
+mod glyph;
+
+pub use glyph::Glyph;
 
 /// Bytes are read as glyphs in at most one way.
 #[tactic(auto, using(crate::proofs::Readings::one_reading))]
