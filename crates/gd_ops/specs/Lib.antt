@@ -1,2 +1,4 @@
+pub mod Answer
+pub mod Equality
 pub mod Ints
 pub mod Texts
