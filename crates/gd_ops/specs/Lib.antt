@@ -1,4 +1,6 @@
 pub mod Answer
 pub mod Equality
 pub mod Ints
+pub mod Kinds
 pub mod Texts
+pub mod Values

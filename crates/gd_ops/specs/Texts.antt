@@ -9,7 +9,7 @@ use Rattle.gd_syntax.specs.declared.operator.Operator.TheVariants.{Add, Equal, N
 use Rattle.gd_syntax.specs.declared.text.TextFault.{TextFault}
 use Rattle.gd_syntax.specs.declared.text.TextFault.TheVariants as t
 use Rattle.gd_model.specs.declared.fault.RunFault.{RunFault}
-use Rattle.gd_model.specs.declared.fault.RunFault.TheVariants.{BadOperands, OutOfRange, TooLong}
+use Rattle.gd_model.specs.declared.fault.RunFault.TheVariants.{BadFormat, BadOperands, OutOfRange, TooLong}
 use Rattle.gd_model.specs.declared.value.Value.{Value}
 use Rattle.gd_model.specs.declared.value.Value.TheVariants.{Bool as BoolValue, Str}
 use Rattle.gd_containers.specs.declared.fault.ThingFault.{ThingFault}
@@ -33,10 +33,18 @@ GivesString want (Err (Run TooLong)) = IsSomeAnd want (λ t. 16777216 < length t
 GivesString want (Err NoMemory) = ⊤
 GivesString want _ = ⊥
 
--- an operator between two Strings; what `%` gives is left to formatting
+-- `%` gives a String, or is a bad format or too long; which one is left to formatting
+abbrev pub FormatGives : Result Fresh ThingFault → Type 0
+FormatGives (Ok (Made (Str t))) = ⊤
+FormatGives (Err (Run BadFormat)) = ⊤
+FormatGives (Err (Run TooLong)) = ⊤
+FormatGives (Err NoMemory) = ⊤
+FormatGives r = ⊥
+
+-- an operator between two Strings
 abbrev pub TextsGive : Operator → List ℕ → List ℕ → Result Fresh ThingFault → Type 0
 TextsGive Add x y r = GivesString (Some (x ++ y)) r
-TextsGive Remainder x y r = ⊤
+TextsGive Remainder x y r = FormatGives r
 TextsGive Equal x y r = r ≡ Ok (Made (BoolValue (bytes_eq x y)))
 TextsGive NotEqual x y r = r ≡ Ok (Made (BoolValue (not (bytes_eq x y))))
 TextsGive Less x y r = r ≡ Ok (Made (BoolValue (is_lt (slice_cmp nat_cmp x y))))

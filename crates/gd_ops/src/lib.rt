@@ -20,4 +20,4 @@ pub use fresh::Fresh;
 pub use kind::{Kind, kind_of, kind_of_type};
 pub use operators::{apply, truth};
 pub use print::text_of;
-pub use rows::{Given, Row, result_type, row_of, takes};
+pub use rows::{Given, is_unary, result_type, takes};

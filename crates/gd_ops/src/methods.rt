@@ -170,10 +170,10 @@ fn slice(alloc: Global, a: &TypedArray, from: i64, to: i64) -> Result<Fresh, Thi
 }
 
 fn place<K: Look>(a: &TypedArray, v: &Value, from: i64, look: &K) -> Result<Fresh, ThingFault> {
-    if from < 0 {
-        return int(-1);
+    match u32::try_from(from) {
+        Ok(from) => found(first_place(a, v, from, look)?),
+        Err(_) => int(-1),
     }
-    found(first_place(a, v, from, look)?)
 }
 
 fn count<K: Look>(a: &TypedArray, v: &Value, look: &K) -> Result<Fresh, ThingFault> {

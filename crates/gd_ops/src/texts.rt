@@ -1,8 +1,9 @@
 //! The operators on Strings.
-ghost use Rattle.gd_ops.specs.Texts.{TextsGive, GivesString, text_fault};
+ghost use Rattle.gd_ops.specs.Texts.{TextsGive, FormatGives, GivesString, text_fault};
 ghost use Rattle.gd_text.specs.Text.{Gives};
 ghost use Rattle.std.specs.Prelude.{◌≡◌, List, ℕ, Option};
 
+use crate::equality::not_there;
 use crate::fresh::{Fresh, boolean, refused};
 use gd_containers::ThingFault;
 use gd_model::{RunFault, Value};
@@ -18,7 +19,8 @@ pub fn text_refusal(fault: TextFault) -> ThingFault
     match fault {
         TextFault::TooLong => ThingFault::Run(RunFault::TooLong),
         TextFault::OutOfRange => ThingFault::Run(RunFault::OutOfRange),
-        TextFault::NotUtf8 | TextFault::NoMemory => ThingFault::NoMemory,
+        TextFault::NotUtf8 => not_there(),
+        TextFault::NoMemory => ThingFault::NoMemory,
     }
 }
 
@@ -32,8 +34,10 @@ pub fn text(made: Result<Text, TextFault>) -> Result<Fresh, ThingFault>
     }
 }
 
-/// The text that a pattern gives.
-pub fn formatted(alloc: Global, pattern: &Text, args: &[Arg]) -> Result<Fresh, ThingFault> {
+/// The text that a pattern gives. `BadFormat`, then `TooLong`.
+pub fn formatted(alloc: Global, pattern: &Text, args: &[Arg]) -> Result<Fresh, ThingFault>
+    ensures { FormatGives result }
+{
     match format(alloc, pattern, args) {
         Ok(text) => Ok(Fresh::Value(Value::Str(text))),
         Err(FormatFault::BadFormat) => refused(RunFault::BadFormat),
