@@ -4,3 +4,4 @@ pub mod Ints
 pub mod Kinds
 pub mod Texts
 pub mod Values
+pub mod Printed

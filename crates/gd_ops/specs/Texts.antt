@@ -33,6 +33,12 @@ GivesString want (Err (Run TooLong)) = IsSomeAnd want (λ t. 16777216 < length t
 GivesString want (Err NoMemory) = ⊤
 GivesString want _ = ⊥
 
+-- the faults of a text that is to be made: too long, and want of memory
+abbrev pub IsLimit : ThingFault → Type 0
+IsLimit (Run TooLong) = ⊤
+IsLimit NoMemory = ⊤
+IsLimit f = ⊥
+
 -- `%` gives a String, or is a bad format or too long; which one is left to formatting
 abbrev pub FormatGives : Result Fresh ThingFault → Type 0
 FormatGives (Ok (Made (Str t))) = ⊤

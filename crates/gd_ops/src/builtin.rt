@@ -3,7 +3,7 @@ use crate::equality::{is_same, not_there};
 use crate::fresh::{Fresh, boolean, int, refused};
 use crate::methods::call_method;
 use crate::operators::truth;
-use crate::print::joined_text;
+use crate::print::joined;
 use crate::texts::text;
 use gd_containers::{Look, MAX_ITEMS, ThingFault, TypedArray};
 use gd_model::{RunFault, Ty, Value};
@@ -108,9 +108,9 @@ pub fn call_builtin<K: Look>(
     look: &K,
 ) -> Result<Fresh, ThingFault> {
     match (builtin, args) {
-        (Builtin::Print, _) | (Builtin::Str, _) => joined_text(alloc, args, "", look),
-        (Builtin::Prints, _) => joined_text(alloc, args, " ", look),
-        (Builtin::Printt, _) => joined_text(alloc, args, "\t", look),
+        (Builtin::Print, _) | (Builtin::Str, _) => joined(alloc, args, &[], look),
+        (Builtin::Prints, _) => joined(alloc, args, &[' '], look),
+        (Builtin::Printt, _) => joined(alloc, args, &['\t'], look),
         (Builtin::Len, [v]) => length_of(v, look),
         (Builtin::Range, [Value::Int(end)]) => range(alloc, 0, *end, 1),
         (Builtin::Range, [Value::Int(first), Value::Int(end)]) => range(alloc, *first, *end, 1),

@@ -3,7 +3,7 @@ use crate::builtin::Builtin;
 use crate::equality::{not_there, same};
 use crate::fresh::{Fresh, boolean, int, refused};
 use crate::operators::first_place;
-use crate::print::joined_by;
+use crate::print::joined;
 use crate::texts::{text, text_refusal};
 use gd_containers::{Look, OrderedDict, ThingFault, TypedArray, key_of};
 use gd_model::{Key, RunFault, Ty, Value};
@@ -63,7 +63,7 @@ fn on_text<K: Look>(
         }
         (Builtin::StringUnicodeAt, [Value::Int(i)]) => unicode_at(a, *i),
         (Builtin::StringJoin, [Value::Array(h)]) => match look.array(*h) {
-            Some(parts) => joined_by(alloc, parts.items(), a, look),
+            Some(parts) => joined(alloc, parts.items(), a.chars(), look),
             None => Err(not_there()),
         },
         (Builtin::StringLength, _)

@@ -4,7 +4,7 @@ ghost use Rattle.gd_model.specs.declared.fault.RunFault.{RunFault};
 ghost use Rattle.gd_model.specs.Store.{array_behind, dict_behind};
 ghost use Rattle.gd_ops.specs.Answer.{Answers, exact, in_form};
 ghost use Rattle.gd_ops.specs.Equality.{same};
-ghost use Rattle.gd_ops.specs.Texts.{FormatGives};
+ghost use Rattle.gd_ops.specs.Texts.{FormatGives, IsLimit};
 ghost use Rattle.gd_ops.specs.Values as spec;
 ghost use Rattle.gd_ops.specs.Values.{Applies, OthersGive, SumGives, RestGives, Joins};
 
@@ -12,7 +12,7 @@ use crate::equality::{not_there, same};
 use crate::fresh::{Fresh, boolean, refused};
 use crate::ints::{apply_int, apply_ints};
 use crate::kind::kind_of;
-use crate::print::printed;
+use crate::print::text_of;
 use crate::rows::alike;
 use crate::texts::{apply_texts, formatted};
 use gd_containers::{Look, MAX_ITEMS, ThingFault, TypedArray, key_of};
@@ -236,11 +236,13 @@ fn put_arg<K: Look>(
     args: &mut Vec<Arg>,
     v: &Value,
     look: &K,
-) -> Result<(), ThingFault> {
+) -> Result<(), ThingFault>
+    ensures { IfErr result IsLimit }
+{
     let arg = match v {
         Value::Int(n) => Arg::Num(*n),
         Value::Str(text) => Arg::Str(text.share()?),
-        _ => Arg::Other(printed(alloc, v, look)?),
+        _ => Arg::Other(text_of(alloc, v, look)?),
     };
     match args.push(arg) {
         Ok(()) => Ok(()),
