@@ -1,5 +1,5 @@
 //! The functions of the language.
-use crate::equality::{is_same, not_there};
+use crate::equality::{is_same, never_comes};
 use crate::fresh::{Fresh, boolean, int, refused};
 use crate::methods::call_method;
 use crate::operators::truth;
@@ -145,11 +145,11 @@ fn length_of<K: Look>(v: &Value, look: &K) -> Result<Fresh, ThingFault> {
         Value::Str(text) => int(i64::from(text.length())),
         Value::Array(h) => match look.array(*h) {
             Some(array) => int(i64::from(array.size())),
-            None => Err(not_there()),
+            None => Err(never_comes()),
         },
         Value::Dict(h) => match look.dict(*h) {
             Some(dict) => int(i64::from(dict.size())),
-            None => Err(not_there()),
+            None => Err(never_comes()),
         },
         _ => refused(RunFault::ValueOfAnotherType),
     }

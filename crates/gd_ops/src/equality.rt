@@ -42,10 +42,10 @@ fn same_arrays<K: Look>(h: Handle, i: Handle, look: &K, room: u32) -> Result<boo
         return Err(ThingFault::Run(RunFault::TooDeepToCompare));
     }
     let Some(x) = look.array(h) else {
-        return Err(not_there());
+        return Err(never_comes());
     };
     let Some(y) = look.array(i) else {
-        return Err(not_there());
+        return Err(never_comes());
     };
     if x.size() != y.size() {
         return Ok(false);
@@ -54,12 +54,7 @@ fn same_arrays<K: Look>(h: Handle, i: Handle, look: &K, room: u32) -> Result<boo
 }
 
 #[cycle(same)]
-fn same_items<K: Look>(
-    x: &[Value],
-    y: &[Value],
-    look: &K,
-    room: u32,
-) -> Result<bool, ThingFault>
+fn same_items<K: Look>(x: &[Value], y: &[Value], look: &K, room: u32) -> Result<bool, ThingFault>
     requires { length x.now ≡ length y.now }
     ensures { result ≡ exact (spec.same_items (spec.same_by (K.things look.now) (spec.inside (K.things look.now) room)) x.now y.now) }
 {
@@ -79,10 +74,10 @@ fn same_dicts<K: Look>(h: Handle, i: Handle, look: &K, room: u32) -> Result<bool
         return Err(ThingFault::Run(RunFault::TooDeepToCompare));
     }
     let Some(x) = look.dict(h) else {
-        return Err(not_there());
+        return Err(never_comes());
     };
     let Some(y) = look.dict(i) else {
-        return Err(not_there());
+        return Err(never_comes());
     };
     if x.size() != y.size() {
         return Ok(false);
@@ -113,8 +108,9 @@ fn same_pairs<K: Look>(
     Ok(true)
 }
 
-/// What a look-up of a thing that a value leads to does not give.
-pub fn not_there() -> ThingFault
+/// The answer for a case that does not come: a handle without its thing, or text that is not UTF-8 from a call that
+/// reads no bytes.
+pub fn never_comes() -> ThingFault
     ensures { result ≡ ThingFault.NoMemory }
 {
     let _ = impossible();

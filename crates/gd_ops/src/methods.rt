@@ -1,6 +1,6 @@
 //! The methods of Strings, Arrays and Dictionaries that do not write.
 use crate::builtin::Builtin;
-use crate::equality::{not_there, same};
+use crate::equality::{never_comes, same};
 use crate::fresh::{Fresh, boolean, int, refused};
 use crate::operators::first_place;
 use crate::print::joined;
@@ -22,11 +22,11 @@ pub fn call_method<K: Look>(
         [Value::Str(receiver), rest @ ..] => on_text(alloc, method, receiver, rest, look),
         [Value::Array(h), rest @ ..] => match look.array(*h) {
             Some(receiver) => on_array(alloc, method, receiver, rest, look),
-            None => Err(not_there()),
+            None => Err(never_comes()),
         },
         [Value::Dict(h), rest @ ..] => match look.dict(*h) {
             Some(receiver) => on_dict(alloc, method, receiver, rest, look),
-            None => Err(not_there()),
+            None => Err(never_comes()),
         },
         _ => refused(RunFault::WrongNumberOfArguments),
     }
@@ -64,7 +64,7 @@ fn on_text<K: Look>(
         (Builtin::StringUnicodeAt, [Value::Int(i)]) => unicode_at(a, *i),
         (Builtin::StringJoin, [Value::Array(h)]) => match look.array(*h) {
             Some(parts) => joined(alloc, parts.items(), a.chars(), look),
-            None => Err(not_there()),
+            None => Err(never_comes()),
         },
         (Builtin::StringLength, _)
         | (Builtin::StringIsEmpty, _)
@@ -238,7 +238,7 @@ fn keys(alloc: Global, d: &OrderedDict) -> Result<Fresh, ThingFault> {
     let mut all = TypedArray::new(alloc, Ty::Variant, false);
     for i in 0..d.size() {
         let Some((key, _)) = d.at(i) else {
-            return Err(not_there());
+            return Err(never_comes());
         };
         all.push(value_of(key)?, true)?;
     }
@@ -249,7 +249,7 @@ fn values(alloc: Global, d: &OrderedDict) -> Result<Fresh, ThingFault> {
     let mut all = TypedArray::new(alloc, Ty::Variant, false);
     for i in 0..d.size() {
         let Some((_, value)) = d.at(i) else {
-            return Err(not_there());
+            return Err(never_comes());
         };
         all.push(value.share()?, true)?;
     }
@@ -262,7 +262,7 @@ fn duplicate(alloc: Global, d: &OrderedDict) -> Result<Fresh, ThingFault> {
     let mut all = OrderedDict::of(alloc, false, key, value);
     for i in 0..d.size() {
         let Some((key, value)) = d.at(i) else {
-            return Err(not_there());
+            return Err(never_comes());
         };
         all.put(key.share()?, value.share()?, true)?;
     }
@@ -272,7 +272,7 @@ fn duplicate(alloc: Global, d: &OrderedDict) -> Result<Fresh, ThingFault> {
 fn find_key<K: Look>(d: &OrderedDict, v: &Value, look: &K) -> Result<Fresh, ThingFault> {
     for i in 0..d.size() {
         let Some((key, value)) = d.at(i) else {
-            return Err(not_there());
+            return Err(never_comes());
         };
         if same(value, v, look)? {
             return Ok(Fresh::Value(value_of(key)?));

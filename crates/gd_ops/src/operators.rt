@@ -8,7 +8,7 @@ ghost use Rattle.gd_ops.specs.Texts.{FormatGives, IsLimit};
 ghost use Rattle.gd_ops.specs.Values as spec;
 ghost use Rattle.gd_ops.specs.Values.{Applies, OthersGive, SumGives, RestGives, Joins};
 
-use crate::equality::{not_there, same};
+use crate::equality::{never_comes, same};
 use crate::fresh::{Fresh, boolean, refused};
 use crate::ints::{apply_int, apply_ints};
 use crate::kind::kind_of;
@@ -76,12 +76,7 @@ fn rest<K: Look>(alloc: Global, a: &Value, b: &Value, look: &K) -> Result<Fresh,
 }
 
 /// The tests, and the operators before one operand.
-fn apply_test<K: Look>(
-    op: Operator,
-    a: &Value,
-    b: &Value,
-    look: &K,
-) -> Result<Fresh, ThingFault>
+fn apply_test<K: Look>(op: Operator, a: &Value, b: &Value, look: &K) -> Result<Fresh, ThingFault>
     ensures { Answers (spec.tests_give (K.things look.now) op a.now b.now) result }
 {
     match op {
@@ -144,11 +139,11 @@ pub fn truth<K: Look>(v: &Value, look: &K) -> Result<bool, ThingFault>
         Value::Str(text) => Ok(text.length() != 0),
         Value::Array(h) => match look.array(*h) {
             Some(array) => Ok(array.size() != 0),
-            None => Err(not_there()),
+            None => Err(never_comes()),
         },
         Value::Dict(h) => match look.dict(*h) {
             Some(dict) => Ok(dict.size() != 0),
-            None => Err(not_there()),
+            None => Err(never_comes()),
         },
         Value::Object(_) | Value::Callable(_) | Value::Signal(_, _) => Ok(true),
     }
@@ -174,7 +169,7 @@ fn is_element<K: Look>(v: &Value, h: Handle, look: &K) -> Result<bool, ThingFaul
             Ok(place) => Ok(place.is_some()),
             Err(fault) => Err(fault),
         },
-        None => Err(not_there()),
+        None => Err(never_comes()),
     }
 }
 
@@ -184,7 +179,7 @@ fn has_key<K: Look>(v: &Value, h: Handle, look: &K) -> Result<bool, ThingFault>
     let key = key_of(v)?;
     match look.dict(h) {
         Some(dict) => Ok(dict.get(&key).is_some()),
-        None => Err(not_there()),
+        None => Err(never_comes()),
     }
 }
 
@@ -220,7 +215,7 @@ fn format_one<K: Look>(
     match v {
         Value::Array(h) => {
             let Some(array) = look.array(*h) else {
-                return Err(not_there());
+                return Err(never_comes());
             };
             for item in array.items() {
                 put_arg(alloc, &mut args, item, look)?;
@@ -256,7 +251,7 @@ fn joined<K: Look>(alloc: Global, h: Handle, i: Handle, look: &K) -> Result<Fres
     ensures { Joins (array_behind (K.things look.now h)) (array_behind (K.things look.now i)) result }
 {
     let (Some(x), Some(y)) = (look.array(h), look.array(i)) else {
-        return Err(not_there());
+        return Err(never_comes());
     };
     if x.items().len() + y.items().len() > MAX_ITEMS {
         return refused(RunFault::TooLong);

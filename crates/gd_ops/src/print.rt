@@ -6,7 +6,7 @@ ghost use Rattle.gd_containers.specs.Keys.{key_value};
 ghost use Rattle.gd_ops.specs.Printed as spec;
 ghost use Rattle.gd_ops.specs.Printed.{Puts, GivesForm, GivesFormString};
 
-use crate::equality::not_there;
+use crate::equality::never_comes;
 use crate::fresh::Fresh;
 use crate::texts::text_refusal;
 use gd_containers::{Look, OrderedDict, ThingFault, TypedArray};
@@ -147,10 +147,10 @@ fn put_object<K: Look>(out: &mut Vec<char>, h: Handle, look: &K) -> Result<(), T
     ensures { Puts (spec.object_form h.serial (option_and_then (K.names look.now) (class_behind (K.things look.now h)))) out.old.items out.new.items result }
 {
     let Some(class) = look.class_of(h) else {
-        return Err(not_there());
+        return Err(never_comes());
     };
     let Some(name) = look.class_name(class) else {
-        return Err(not_there());
+        return Err(never_comes());
     };
     put(out, '<')?;
     put_text(out, name)?;
@@ -180,7 +180,7 @@ fn put_plain<K: Look>(out: &mut Vec<char>, v: &Value, look: &K) -> Result<(), Th
         Value::Object(h) => put_object(out, *h, look),
         Value::Callable(target) => put_named(out, "<callable ", &target.name),
         Value::Signal(_, name) => put_named(out, "<signal ", name),
-        Value::Array(_) | Value::Dict(_) => Err(not_there()),
+        Value::Array(_) | Value::Dict(_) => Err(never_comes()),
     }
 }
 
@@ -199,12 +199,7 @@ fn put_key<K: Look>(out: &mut Vec<char>, key: &Key, look: &K) -> Result<(), Thin
 
 /// A value inside of a container; `room` is how many containers may still lie inside one another.
 #[cycle(print)]
-fn put_value<K: Look>(
-    out: &mut Vec<char>,
-    v: &Value,
-    look: &K,
-    room: u32,
-) -> Result<(), ThingFault>
+fn put_value<K: Look>(out: &mut Vec<char>, v: &Value, look: &K, room: u32) -> Result<(), ThingFault>
     ensures { Puts (spec.form_by (K.things look.now) (K.names look.now) (spec.inside (K.things look.now) (K.names look.now) room) v.now) out.old.items out.new.items result }
 {
     match v {
@@ -215,19 +210,14 @@ fn put_value<K: Look>(
 }
 
 #[cycle(print)]
-fn put_array<K: Look>(
-    out: &mut Vec<char>,
-    h: Handle,
-    look: &K,
-    room: u32,
-) -> Result<(), ThingFault>
+fn put_array<K: Look>(out: &mut Vec<char>, h: Handle, look: &K, room: u32) -> Result<(), ThingFault>
     ensures { Puts (spec.array_form (spec.inside (K.things look.now) (K.names look.now) room) (array_behind (K.things look.now h))) out.old.items out.new.items result }
 {
     if room == 0 {
         return put_word(out, "[...]");
     }
     let Some(array) = look.array(h) else {
-        return Err(not_there());
+        return Err(never_comes());
     };
     put(out, '[')?;
     put_items(out, array.items(), look, room - 1)?;
@@ -255,19 +245,14 @@ fn put_items<K: Look>(
 }
 
 #[cycle(print)]
-fn put_dict<K: Look>(
-    out: &mut Vec<char>,
-    h: Handle,
-    look: &K,
-    room: u32,
-) -> Result<(), ThingFault>
+fn put_dict<K: Look>(out: &mut Vec<char>, h: Handle, look: &K, room: u32) -> Result<(), ThingFault>
     ensures { Puts (spec.dict_form (spec.plain_form (K.things look.now) (K.names look.now)) (spec.inside (K.things look.now) (K.names look.now) room) (dict_behind (K.things look.now h))) out.old.items out.new.items result }
 {
     if room == 0 {
         return put_word(out, "{...}");
     }
     let Some(dict) = look.dict(h) else {
-        return Err(not_there());
+        return Err(never_comes());
     };
     if dict.size() == 0 {
         return put_word(out, "{  }");

@@ -3,7 +3,7 @@ ghost use Rattle.gd_ops.specs.Texts.{TextsGive, FormatGives, GivesString, text_f
 ghost use Rattle.gd_text.specs.Text.{Gives};
 ghost use Rattle.std.specs.Prelude.{◌≡◌, List, ℕ, Option};
 
-use crate::equality::not_there;
+use crate::equality::never_comes;
 use crate::fresh::{Fresh, boolean, refused};
 use gd_containers::ThingFault;
 use gd_model::{RunFault, Value};
@@ -19,7 +19,7 @@ pub fn text_refusal(fault: TextFault) -> ThingFault
     match fault {
         TextFault::TooLong => ThingFault::Run(RunFault::TooLong),
         TextFault::OutOfRange => ThingFault::Run(RunFault::OutOfRange),
-        TextFault::NotUtf8 => not_there(),
+        TextFault::NotUtf8 => never_comes(),
         TextFault::NoMemory => ThingFault::NoMemory,
     }
 }

@@ -16,13 +16,13 @@ pub same_arrays-returns-in_default : goal.same_arrays-returns-in_default
 same_arrays-returns-in_default g t c =
     let T = g.K.Look.things c.args.look.now in
     let room : c.args.room ≡ (c.args.room - 1) + 1 = omega arith in
-    ap (λ f. Err f) c.not_there.ensures ∙ sym (no_left_array (spec.same_by T (spec.inside T (c.args.room - 1))) (array_behind (T c.args.i))) ∙ arrays_open T c.args.h c.args.i c.args.room (c.args.room - 1) None (array_behind (T c.args.i)) room c.in_default.ensures refl
+    ap (λ f. Err f) c.never_comes.ensures ∙ sym (no_left_array (spec.same_by T (spec.inside T (c.args.room - 1))) (array_behind (T c.args.i))) ∙ arrays_open T c.args.h c.args.i c.args.room (c.args.room - 1) None (array_behind (T c.args.i)) room c.in_default.ensures refl
 
 pub same_arrays-returns-in_default-array : goal.same_arrays-returns-in_default-array
 same_arrays-returns-in_default-array g t c =
     let T = g.K.Look.things c.args.look.now in
     let room : c.args.room ≡ (c.args.room - 1) + 1 = omega arith in
-    ap (λ f. Err f) c.not_there-in_default-array.ensures ∙ sym (no_right_array (spec.same_by T (spec.inside T (c.args.room - 1))) c.in-Some.x.now) ∙ arrays_open T c.args.h c.args.i c.args.room (c.args.room - 1) (Some c.in-Some.x.now) None room c.in-Some.ensures c.in_default-array.ensures
+    ap (λ f. Err f) c.never_comes-in_default-array.ensures ∙ sym (no_right_array (spec.same_by T (spec.inside T (c.args.room - 1))) c.in-Some.x.now) ∙ arrays_open T c.args.h c.args.i c.args.room (c.args.room - 1) (Some c.in-Some.x.now) None room c.in-Some.ensures c.in_default-array.ensures
 
 pub same_arrays-returns-then-size : goal.same_arrays-returns-then-size
 same_arrays-returns-then-size g t c =
@@ -43,13 +43,13 @@ pub same_dicts-returns-in_default : goal.same_dicts-returns-in_default
 same_dicts-returns-in_default g t c =
     let T = g.K.Look.things c.args.look.now in
     let room : c.args.room ≡ (c.args.room - 1) + 1 = omega arith in
-    ap (λ f. Err f) c.not_there.ensures ∙ sym (no_left_dict (spec.same_by T (spec.inside T (c.args.room - 1))) (dict_behind (T c.args.i))) ∙ dicts_open T c.args.h c.args.i c.args.room (c.args.room - 1) None (dict_behind (T c.args.i)) room c.in_default.ensures refl
+    ap (λ f. Err f) c.never_comes.ensures ∙ sym (no_left_dict (spec.same_by T (spec.inside T (c.args.room - 1))) (dict_behind (T c.args.i))) ∙ dicts_open T c.args.h c.args.i c.args.room (c.args.room - 1) None (dict_behind (T c.args.i)) room c.in_default.ensures refl
 
 pub same_dicts-returns-in_default-dict : goal.same_dicts-returns-in_default-dict
 same_dicts-returns-in_default-dict g t c =
     let T = g.K.Look.things c.args.look.now in
     let room : c.args.room ≡ (c.args.room - 1) + 1 = omega arith in
-    ap (λ f. Err f) c.not_there-in_default-dict.ensures ∙ sym (no_right_dict (spec.same_by T (spec.inside T (c.args.room - 1))) c.in-Some.x.now) ∙ dicts_open T c.args.h c.args.i c.args.room (c.args.room - 1) (Some c.in-Some.x.now) None room c.in-Some.ensures c.in_default-dict.ensures
+    ap (λ f. Err f) c.never_comes-in_default-dict.ensures ∙ sym (no_right_dict (spec.same_by T (spec.inside T (c.args.room - 1))) c.in-Some.x.now) ∙ dicts_open T c.args.h c.args.i c.args.room (c.args.room - 1) (Some c.in-Some.x.now) None room c.in-Some.ensures c.in_default-dict.ensures
 
 pub same_dicts-returns-then-size : goal.same_dicts-returns-then-size
 same_dicts-returns-then-size g t c =
