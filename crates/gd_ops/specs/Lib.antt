@@ -1,5 +1,6 @@
 pub mod Answer
 pub mod Equality
+pub mod Functions
 pub mod Ints
 pub mod Kinds
 pub mod Texts

@@ -4,6 +4,7 @@
 mod builtin;
 mod equality;
 mod fresh;
+mod functions;
 mod ints;
 mod kind;
 mod methods;
