@@ -3,6 +3,7 @@ pub mod Equality
 pub mod Functions
 pub mod Ints
 pub mod Kinds
+pub mod Methods
 pub mod Texts
 pub mod Values
 pub mod Printed

@@ -8,11 +8,13 @@ mod functions;
 mod ints;
 mod kind;
 mod methods;
+mod misfit;
 mod operators;
 mod print;
 mod rows;
 #[cfg(test)]
 mod tests;
+mod text_methods;
 mod texts;
 
 pub use builtin::{Builtin, call_builtin};

@@ -1,5 +1,6 @@
 //! The operators on Strings.
-ghost use Rattle.gd_ops.specs.Texts.{TextsGive, FormatGives, GivesString, text_fault};
+ghost use Rattle.gd_ops.specs.Texts.{TextsGive, FormatGives, text_meant, text_fault};
+ghost use Rattle.gd_ops.specs.Answer.{Answers};
 ghost use Rattle.gd_text.specs.Text.{Gives};
 ghost use Rattle.std.specs.Prelude.{◌≡◌, List, ℕ, Option};
 
@@ -26,7 +27,7 @@ pub fn text_refusal(fault: TextFault) -> ThingFault
 
 /// The text as what a call gives.
 pub fn text(made: Result<Text, TextFault>) -> Result<Fresh, ThingFault>
-    ensures { (want : Option (List ℕ)) → Gives want made → GivesString want result }
+    ensures { (want : Option (List ℕ)) → Gives want made → Answers (text_meant want) result }
 {
     match made {
         Ok(text) => Ok(Fresh::Value(Value::Str(text))),
