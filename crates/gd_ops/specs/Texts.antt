@@ -1,5 +1,5 @@
 -- What the operators give on two Strings.
-use Rattle.std.specs.Prelude.{◌≡◌, ⊤, ℕ, ◌<◌, ℤ, pos, Bool, not, List, ◌++◌, is_some, is_none, Option, None, Some, Result, Ok, Err, IsSomeAnd}
+use Rattle.std.specs.Prelude.{◌≡◌, ⊤, ℕ, ◌<◌, nat_le, if◌then◌else◌, ℤ, pos, Bool, not, List, ◌++◌, is_some, is_none, Option, None, Some, Result, Ok, Err, IsSomeAnd}
 use Rattle.std.specs.Cmp.Lexicographic.{slice_cmp}
 use Rattle.std.specs.Ordering.{nat_cmp, is_lt, is_gt}
 use Rattle.std.specs.Prelude.{length}
@@ -9,7 +9,7 @@ use Rattle.gd_syntax.specs.declared.operator.Operator.TheVariants.{Add, Equal, N
 use Rattle.gd_syntax.specs.declared.text.TextFault.{TextFault}
 use Rattle.gd_syntax.specs.declared.text.TextFault.TheVariants as t
 use Rattle.gd_model.specs.declared.fault.RunFault.{RunFault}
-use Rattle.gd_model.specs.declared.fault.RunFault.TheVariants.{BadOperands, OutOfRange, TooLong}
+use Rattle.gd_model.specs.declared.fault.RunFault.TheVariants.{BadFormat, BadOperands, OutOfRange, TooLong}
 use Rattle.gd_model.specs.declared.value.Value.{Value}
 use Rattle.gd_model.specs.declared.value.Value.TheVariants.{Bool as BoolValue, Str}
 use Rattle.gd_containers.specs.declared.fault.ThingFault.{ThingFault}
@@ -17,6 +17,7 @@ use Rattle.gd_containers.specs.declared.fault.ThingFault.TheVariants.{Run, NoMem
 use Rattle.gd_ops.specs.declared.fresh.Fresh.{Fresh}
 use Rattle.gd_ops.specs.declared.fresh.Fresh.TheVariants.{Value as Made}
 use Rattle.gd_text.specs.Search.{find}
+use Rattle.gd_ops.specs.Answer.{Answers}
 
 -- the refusal that a fault of a text call is
 abbrev pub text_fault : TextFault → ThingFault
@@ -25,18 +26,29 @@ text_fault t.OutOfRange = Run OutOfRange
 text_fault t.NotUtf8 = NoMemory
 text_fault t.NoMemory = NoMemory
 
--- the String, or the fault where there is none or it passes the limit, unless memory lacks
-abbrev pub GivesString : Option (List ℕ) → Result Fresh ThingFault → Type 0
-GivesString want (Ok (Made (Str t))) = want ≡ Some t
-GivesString want (Err (Run OutOfRange)) = want ≡ None
-GivesString want (Err (Run TooLong)) = IsSomeAnd want (λ t. 16777216 < length t)
-GivesString want (Err NoMemory) = ⊤
-GivesString want _ = ⊥
+-- what the call of a text means: out of range where there is no text, too long where it passes the limit
+abbrev pub text_meant : Option (List ℕ) → Option (Result Fresh RunFault)
+text_meant None = Some (Err OutOfRange)
+text_meant (Some t) = Some (if nat_le (length t) 16777216 then Ok (Made (Str t)) else Err TooLong)
 
--- an operator between two Strings; what `%` gives is left to formatting
+-- the faults of a text that is to be made: too long, and want of memory
+abbrev pub IsLimit : ThingFault → Type 0
+IsLimit (Run TooLong) = ⊤
+IsLimit NoMemory = ⊤
+IsLimit f = ⊥
+
+-- `%` gives a String, or is a bad format or too long; which one is left to formatting
+abbrev pub FormatGives : Result Fresh ThingFault → Type 0
+FormatGives (Ok (Made (Str t))) = ⊤
+FormatGives (Err (Run BadFormat)) = ⊤
+FormatGives (Err (Run TooLong)) = ⊤
+FormatGives (Err NoMemory) = ⊤
+FormatGives r = ⊥
+
+-- an operator between two Strings
 abbrev pub TextsGive : Operator → List ℕ → List ℕ → Result Fresh ThingFault → Type 0
-TextsGive Add x y r = GivesString (Some (x ++ y)) r
-TextsGive Remainder x y r = ⊤
+TextsGive Add x y r = Answers (text_meant (Some (x ++ y))) r
+TextsGive Remainder x y r = FormatGives r
 TextsGive Equal x y r = r ≡ Ok (Made (BoolValue (bytes_eq x y)))
 TextsGive NotEqual x y r = r ≡ Ok (Made (BoolValue (not (bytes_eq x y))))
 TextsGive Less x y r = r ≡ Ok (Made (BoolValue (is_lt (slice_cmp nat_cmp x y))))

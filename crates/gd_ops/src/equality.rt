@@ -1,61 +1,65 @@
 //! When two values are equal.
-ghost use Rattle.std.specs.Prelude.{◌≡◌};
+ghost use Rattle.std.specs.Prelude.{◌≡◌, length};
+ghost use Rattle.gd_ops.specs.Answer.{exact};
+ghost use Rattle.gd_ops.specs.Equality as spec;
 
-use gd_containers::{Look, OrderedDict, ThingFault, TypedArray};
+use gd_containers::{Look, OrderedDict, ThingFault};
 use gd_model::{RunFault, Target, Value, impossible};
+use slot_arena::Handle;
 
 /// How many containers deep two values are compared.
 pub const DEEPEST: u32 = 64;
 
-/// Whether the two values are of one kind and equal: arrays element by element, dictionaries by their keys.
-/// `TooDeepToCompare` where a pair of containers lies more than 64 levels deep.
-pub fn same<K: Look>(a: &Value, b: &Value, look: &K) -> Result<bool, ThingFault> {
+/// Whether the two values are of one kind and equal: arrays element by element, dictionaries by their keys, in the
+/// order of `a`. `TooDeepToCompare` where a pair of containers that are not one thing lies more than 64 levels deep.
+pub fn same<K: Look>(a: &Value, b: &Value, look: &K) -> Result<bool, ThingFault>
+    ensures { result ≡ exact (spec.same (K.things look.now) a.now b.now) }
+{
     same_within(a, b, look, DEEPEST)
 }
 
+/// `room` is how many containers may still lie inside one another.
 #[cycle(same)]
-fn same_within<K: Look>(a: &Value, b: &Value, look: &K, room: u32) -> Result<bool, ThingFault> {
+fn same_within<K: Look>(a: &Value, b: &Value, look: &K, room: u32) -> Result<bool, ThingFault>
+    ensures { result ≡ exact (spec.same_by (K.things look.now) (spec.inside (K.things look.now) room) a.now b.now) }
+{
     match (a, b) {
-        (Value::Array(h), Value::Array(i)) => {
-            if h.serial == i.serial {
-                return Ok(true);
-            }
-            if room == 0 {
-                return Err(ThingFault::Run(RunFault::TooDeepToCompare));
-            }
-            match (look.array(*h), look.array(*i)) {
-                (Some(x), Some(y)) => same_arrays(x, y, look, room - 1),
-                _ => Err(not_there()),
-            }
+        (Value::Array(h), Value::Array(i)) if h.serial != i.serial => {
+            same_arrays(*h, *i, look, room)
         }
-        (Value::Dict(h), Value::Dict(i)) => {
-            if h.serial == i.serial {
-                return Ok(true);
-            }
-            if room == 0 {
-                return Err(ThingFault::Run(RunFault::TooDeepToCompare));
-            }
-            match (look.dict(*h), look.dict(*i)) {
-                (Some(x), Some(y)) => same_dicts(x, y, look, room - 1),
-                _ => Err(not_there()),
-            }
+        (Value::Dict(h), Value::Dict(i)) if h.serial != i.serial => {
+            same_dicts(*h, *i, look, room)
         }
         _ => Ok(is_same(a, b)),
     }
 }
 
 #[cycle(same)]
-fn same_arrays<K: Look>(
-    x: &TypedArray,
-    y: &TypedArray,
-    look: &K,
-    room: u32,
-) -> Result<bool, ThingFault> {
+fn same_arrays<K: Look>(h: Handle, i: Handle, look: &K, room: u32) -> Result<bool, ThingFault>
+    ensures { result ≡ exact (spec.arrays_by (K.things look.now) (spec.inside (K.things look.now) room) h i) }
+{
+    if room == 0 {
+        return Err(ThingFault::Run(RunFault::TooDeepToCompare));
+    }
+    let Some(x) = look.array(h) else {
+        return Err(never_comes());
+    };
+    let Some(y) = look.array(i) else {
+        return Err(never_comes());
+    };
     if x.size() != y.size() {
         return Ok(false);
     }
-    for (a, b) in x.items().iter().zip(y.items()) {
-        if !same_within(a, b, look, room)? {
+    same_items(x.items(), y.items(), look, room - 1)
+}
+
+#[cycle(same)]
+fn same_items<K: Look>(x: &[Value], y: &[Value], look: &K, room: u32) -> Result<bool, ThingFault>
+    requires { length x.now ≡ length y.now }
+    ensures { result ≡ exact (spec.same_items (spec.same_by (K.things look.now) (spec.inside (K.things look.now) room)) x.now y.now) }
+{
+    for i in 0..x.len() {
+        if !same_within(&x[i], &y[i], look, room)? {
             return Ok(false);
         }
     }
@@ -63,18 +67,36 @@ fn same_arrays<K: Look>(
 }
 
 #[cycle(same)]
-fn same_dicts<K: Look>(
+fn same_dicts<K: Look>(h: Handle, i: Handle, look: &K, room: u32) -> Result<bool, ThingFault>
+    ensures { result ≡ exact (spec.dicts_by (K.things look.now) (spec.inside (K.things look.now) room) h i) }
+{
+    if room == 0 {
+        return Err(ThingFault::Run(RunFault::TooDeepToCompare));
+    }
+    let Some(x) = look.dict(h) else {
+        return Err(never_comes());
+    };
+    let Some(y) = look.dict(i) else {
+        return Err(never_comes());
+    };
+    if x.size() != y.size() {
+        return Ok(false);
+    }
+    same_pairs(x, y, look, room - 1)
+}
+
+#[cycle(same)]
+fn same_pairs<K: Look>(
     x: &OrderedDict,
     y: &OrderedDict,
     look: &K,
     room: u32,
-) -> Result<bool, ThingFault> {
-    if x.size() != y.size() {
-        return Ok(false);
-    }
+) -> Result<bool, ThingFault>
+    ensures { result ≡ exact (spec.same_pairs (spec.same_by (K.things look.now) (spec.inside (K.things look.now) room)) x.now.pairs y.now.pairs) }
+{
     for i in 0..x.size() {
         let Some((key, a)) = x.at(i) else {
-            return Err(not_there());
+            unreachable!();
         };
         let Some(b) = y.get(key) else {
             return Ok(false);
@@ -86,14 +108,19 @@ fn same_dicts<K: Look>(
     Ok(true)
 }
 
-/// What a look-up of a thing that a value leads to does not give.
-pub fn not_there() -> ThingFault {
+/// The answer for a case that does not come: a handle without its thing, or text that is not UTF-8 from a call that
+/// reads no bytes.
+pub fn never_comes() -> ThingFault
+    ensures { result ≡ ThingFault.NoMemory }
+{
     let _ = impossible();
     ThingFault::NoMemory
 }
 
 /// Whether the two are of one kind and equal, things being equal where they are one thing.
-pub fn is_same(a: &Value, b: &Value) -> bool {
+pub fn is_same(a: &Value, b: &Value) -> bool
+    ensures { result ≡ spec.is_same a.now b.now }
+{
     match (a, b) {
         (Value::Nil, Value::Nil) => true,
         (Value::Bool(x), Value::Bool(y)) => *x == *y,
@@ -109,11 +136,18 @@ pub fn is_same(a: &Value, b: &Value) -> bool {
 }
 
 /// Two Callables are equal where their object, or else their class, and their name are.
-fn same_target(s: &Target, t: &Target) -> bool {
-    let receiver = match (s.object, t.object) {
+fn same_target(s: &Target, t: &Target) -> bool
+    ensures { result ≡ spec.same_target s.now t.now }
+{
+    same_receiver(s, t) && s.name == t.name
+}
+
+fn same_receiver(s: &Target, t: &Target) -> bool
+    ensures { result ≡ spec.same_receiver s.now.object t.now.object s.now.class t.now.class }
+{
+    match (s.object, t.object) {
         (Some(h), Some(i)) => h.serial == i.serial,
         (None, None) => s.class == t.class,
         _ => false,
-    };
-    receiver && s.name == t.name
+    }
 }

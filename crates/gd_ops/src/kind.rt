@@ -1,3 +1,6 @@
+ghost use Rattle.std.specs.Prelude.{◌≡◌};
+ghost use Rattle.gd_ops.specs.Kinds as spec;
+
 use gd_model::{Ty, Value};
 
 /// The kind of an operand.
@@ -15,7 +18,9 @@ pub enum Kind {
 }
 
 /// The kind of a value.
-pub fn kind_of(v: &Value) -> Kind {
+pub fn kind_of(v: &Value) -> Kind
+    ensures { result ≡ spec.kind_of v.now }
+{
     match v {
         Value::Nil => Kind::Nil,
         Value::Bool(_) => Kind::Bool,
@@ -30,7 +35,9 @@ pub fn kind_of(v: &Value) -> Kind {
 }
 
 /// The kind of the values of a type, other than null; `None` for Variant and for what is no type of values.
-pub fn kind_of_type(t: &Ty) -> Option<Kind> {
+pub fn kind_of_type(t: &Ty) -> Option<Kind>
+    ensures { result ≡ spec.kind_of_type t.now }
+{
     match t {
         Ty::Nil => Some(Kind::Nil),
         Ty::Bool => Some(Kind::Bool),

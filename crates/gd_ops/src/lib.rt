@@ -4,14 +4,17 @@
 mod builtin;
 mod equality;
 mod fresh;
+mod functions;
 mod ints;
 mod kind;
 mod methods;
+mod misfit;
 mod operators;
 mod print;
 mod rows;
 #[cfg(test)]
 mod tests;
+mod text_methods;
 mod texts;
 
 pub use builtin::{Builtin, call_builtin};
@@ -20,4 +23,4 @@ pub use fresh::Fresh;
 pub use kind::{Kind, kind_of, kind_of_type};
 pub use operators::{apply, truth};
 pub use print::text_of;
-pub use rows::{Given, Row, result_type, row_of, takes};
+pub use rows::{Given, is_unary, result_type, takes};

@@ -1,14 +1,12 @@
 //! The methods of Strings, Arrays and Dictionaries that do not write.
 use crate::builtin::Builtin;
-use crate::equality::{not_there, same};
+use crate::equality::{never_comes, same};
 use crate::fresh::{Fresh, boolean, int, refused};
+use crate::misfit::misfit;
 use crate::operators::first_place;
-use crate::print::joined_by;
-use crate::texts::{text, text_refusal};
+use crate::text_methods::{call_on_text, found};
 use gd_containers::{Look, OrderedDict, ThingFault, TypedArray, key_of};
 use gd_model::{Key, RunFault, Ty, Value};
-use gd_syntax::Text;
-use gd_text::{find, is_valid_int, left, repeat, replace, right, split, strip, substr, to_int};
 use std::alloc::Global;
 
 /// A method, its receiver being the first argument.
@@ -19,110 +17,16 @@ pub fn call_method<K: Look>(
     look: &K,
 ) -> Result<Fresh, ThingFault> {
     match args {
-        [Value::Str(receiver), rest @ ..] => on_text(alloc, method, receiver, rest, look),
+        [Value::Str(receiver), rest @ ..] => call_on_text(alloc, method, receiver, rest, look),
         [Value::Array(h), rest @ ..] => match look.array(*h) {
             Some(receiver) => on_array(alloc, method, receiver, rest, look),
-            None => Err(not_there()),
+            None => Err(never_comes()),
         },
         [Value::Dict(h), rest @ ..] => match look.dict(*h) {
             Some(receiver) => on_dict(alloc, method, receiver, rest, look),
-            None => Err(not_there()),
+            None => Err(never_comes()),
         },
         _ => refused(RunFault::WrongNumberOfArguments),
-    }
-}
-
-/// The refusal of arguments that fit no form of a method: their number, or else the kind of one.
-fn misfit(args: &[Value], least: usize, most: usize) -> Result<Fresh, ThingFault> {
-    if args.len() < least || args.len() > most {
-        refused(RunFault::WrongNumberOfArguments)
-    } else {
-        refused(RunFault::ValueOfAnotherType)
-    }
-}
-
-fn on_text<K: Look>(
-    alloc: Global,
-    method: Builtin,
-    a: &Text,
-    args: &[Value],
-    look: &K,
-) -> Result<Fresh, ThingFault> {
-    match (method, args) {
-        (Builtin::StringLength, []) => int(i64::from(a.length())),
-        (Builtin::StringIsEmpty, []) => boolean(a.length() == 0),
-        (Builtin::StringIsValidInt, []) => boolean(is_valid_int(a)),
-        (Builtin::StringToInt, []) => int(to_int(a)),
-        (Builtin::StringStripEdges, []) => text(strip(alloc, a)),
-        (Builtin::StringLeft, [Value::Int(n)]) => text(left(alloc, a, *n)),
-        (Builtin::StringRight, [Value::Int(n)]) => text(right(alloc, a, *n)),
-        (Builtin::StringRepeat, [Value::Int(n)]) => text(repeat(alloc, a, *n)),
-        (Builtin::StringSubstr, [Value::Int(from)]) => text(substr(alloc, a, *from, -1)),
-        (Builtin::StringSubstr, [Value::Int(from), Value::Int(len)]) => {
-            text(substr(alloc, a, *from, *len))
-        }
-        (Builtin::StringUnicodeAt, [Value::Int(i)]) => unicode_at(a, *i),
-        (Builtin::StringJoin, [Value::Array(h)]) => match look.array(*h) {
-            Some(parts) => joined_by(alloc, parts.items(), a, look),
-            None => Err(not_there()),
-        },
-        (Builtin::StringLength, _)
-        | (Builtin::StringIsEmpty, _)
-        | (Builtin::StringIsValidInt, _)
-        | (Builtin::StringToInt, _)
-        | (Builtin::StringStripEdges, _) => misfit(args, 0, 0),
-        (Builtin::StringLeft, _)
-        | (Builtin::StringRight, _)
-        | (Builtin::StringRepeat, _)
-        | (Builtin::StringUnicodeAt, _)
-        | (Builtin::StringJoin, _) => misfit(args, 1, 1),
-        (Builtin::StringSubstr, _) => misfit(args, 1, 2),
-        _ => in_text(alloc, method, a, args),
-    }
-}
-
-/// The methods of a String that take Strings.
-fn in_text(alloc: Global, method: Builtin, a: &Text, args: &[Value]) -> Result<Fresh, ThingFault> {
-    match (method, args) {
-        (Builtin::StringFind, [Value::Str(what)]) => found(find(a, what, 0)),
-        (Builtin::StringFind, [Value::Str(what), Value::Int(from)]) => found(find(a, what, *from)),
-        (Builtin::StringContains, [Value::Str(what)]) => boolean(find(a, what, 0).is_some()),
-        (Builtin::StringBeginsWith, [Value::Str(s)]) => {
-            boolean(a.chars().starts_with(s.chars()))
-        }
-        (Builtin::StringEndsWith, [Value::Str(s)]) => boolean(a.chars().ends_with(s.chars())),
-        (Builtin::StringReplace, [Value::Str(what), Value::Str(with)]) => {
-            text(replace(alloc, a, what, with))
-        }
-        (Builtin::StringSplit, []) => characters(alloc, a),
-        (Builtin::StringSplit, [Value::Str(by)]) => parts(alloc, a, by, true),
-        (Builtin::StringSplit, [Value::Str(by), Value::Bool(empty)]) => {
-            parts(alloc, a, by, *empty)
-        }
-        (Builtin::StringFind, _) => misfit(args, 1, 2),
-        (Builtin::StringReplace, _) => misfit(args, 2, 2),
-        (Builtin::StringSplit, _) => misfit(args, 0, 2),
-        (Builtin::StringContains, _)
-        | (Builtin::StringBeginsWith, _)
-        | (Builtin::StringEndsWith, _) => misfit(args, 1, 1),
-        _ => refused(RunFault::NoSuchMethod),
-    }
-}
-
-fn found(at: Option<u32>) -> Result<Fresh, ThingFault> {
-    match at {
-        Some(i) => int(i64::from(i)),
-        None => int(-1),
-    }
-}
-
-fn unicode_at(a: &Text, i: i64) -> Result<Fresh, ThingFault> {
-    if i < 0 || i >= i64::from(a.length()) {
-        return refused(RunFault::OutOfRange);
-    }
-    match a.at(i as u32) {
-        Some(c) => int(i64::from(c)),
-        None => refused(RunFault::OutOfRange),
     }
 }
 
@@ -170,10 +74,10 @@ fn slice(alloc: Global, a: &TypedArray, from: i64, to: i64) -> Result<Fresh, Thi
 }
 
 fn place<K: Look>(a: &TypedArray, v: &Value, from: i64, look: &K) -> Result<Fresh, ThingFault> {
-    if from < 0 {
-        return int(-1);
+    match u32::try_from(from) {
+        Ok(from) => found(first_place(a, v, from, look)?),
+        Err(_) => int(-1),
     }
-    found(first_place(a, v, from, look)?)
 }
 
 fn count<K: Look>(a: &TypedArray, v: &Value, look: &K) -> Result<Fresh, ThingFault> {
@@ -238,7 +142,7 @@ fn keys(alloc: Global, d: &OrderedDict) -> Result<Fresh, ThingFault> {
     let mut all = TypedArray::new(alloc, Ty::Variant, false);
     for i in 0..d.size() {
         let Some((key, _)) = d.at(i) else {
-            return Err(not_there());
+            return Err(never_comes());
         };
         all.push(value_of(key)?, true)?;
     }
@@ -249,7 +153,7 @@ fn values(alloc: Global, d: &OrderedDict) -> Result<Fresh, ThingFault> {
     let mut all = TypedArray::new(alloc, Ty::Variant, false);
     for i in 0..d.size() {
         let Some((_, value)) = d.at(i) else {
-            return Err(not_there());
+            return Err(never_comes());
         };
         all.push(value.share()?, true)?;
     }
@@ -262,7 +166,7 @@ fn duplicate(alloc: Global, d: &OrderedDict) -> Result<Fresh, ThingFault> {
     let mut all = OrderedDict::of(alloc, false, key, value);
     for i in 0..d.size() {
         let Some((key, value)) = d.at(i) else {
-            return Err(not_there());
+            return Err(never_comes());
         };
         all.put(key.share()?, value.share()?, true)?;
     }
@@ -272,35 +176,11 @@ fn duplicate(alloc: Global, d: &OrderedDict) -> Result<Fresh, ThingFault> {
 fn find_key<K: Look>(d: &OrderedDict, v: &Value, look: &K) -> Result<Fresh, ThingFault> {
     for i in 0..d.size() {
         let Some((key, value)) = d.at(i) else {
-            return Err(not_there());
+            return Err(never_comes());
         };
         if same(value, v, look)? {
             return Ok(Fresh::Value(value_of(key)?));
         }
     }
     Ok(Fresh::Value(Value::Nil))
-}
-
-/// The characters of the text as an array of Strings.
-fn characters(alloc: Global, a: &Text) -> Result<Fresh, ThingFault> {
-    match Text::of(Vec::new(alloc)) {
-        Ok(nothing) => parts(alloc, a, &nothing, true),
-        Err(fault) => Err(text_refusal(fault)),
-    }
-}
-
-/// The parts of the text as an array of Strings.
-fn parts(alloc: Global, a: &Text, by: &Text, empty: bool) -> Result<Fresh, ThingFault> {
-    match split(alloc, a, by, empty) {
-        Ok(texts) => strings(alloc, texts),
-        Err(fault) => Err(text_refusal(fault)),
-    }
-}
-
-fn strings(alloc: Global, texts: Vec<Text>) -> Result<Fresh, ThingFault> {
-    let mut all = TypedArray::new(alloc, Ty::Str, false);
-    for text in texts {
-        all.push(Value::Str(text), true)?;
-    }
-    Ok(Fresh::Array(all))
 }

@@ -1,14 +1,19 @@
 //! The operators on values.
-ghost use Rattle.std.specs.Prelude.{◌≡◌, IfSome};
-ghost use Rattle.gd_ops.specs.Ints as spec;
-ghost use Rattle.gd_ops.specs.Texts.{TextsGive};
+ghost use Rattle.std.specs.Prelude.{◌≡◌, ◌≤◌, ◌<◌, ◌+◌, ◌++◌, ◌∷◌, [], length, drop, Bool, false, not, Option, Result, OnOk, IfErr};
+ghost use Rattle.gd_model.specs.declared.fault.RunFault.{RunFault};
+ghost use Rattle.gd_model.specs.Store.{array_behind, dict_behind};
+ghost use Rattle.gd_ops.specs.Answer.{Answers, exact, in_form};
+ghost use Rattle.gd_ops.specs.Equality.{same};
+ghost use Rattle.gd_ops.specs.Texts.{FormatGives, IsLimit};
+ghost use Rattle.gd_ops.specs.Values as spec;
+ghost use Rattle.gd_ops.specs.Values.{Applies, OthersGive, SumGives, RestGives, Joins};
 
-use crate::equality::{not_there, same};
+use crate::equality::{never_comes, same};
 use crate::fresh::{Fresh, boolean, refused};
 use crate::ints::{apply_int, apply_ints};
 use crate::kind::kind_of;
-use crate::print::printed;
-use crate::rows::{is_unary, row_of, takes};
+use crate::print::text_of;
+use crate::rows::alike;
 use crate::texts::{apply_texts, formatted};
 use gd_containers::{Look, MAX_ITEMS, ThingFault, TypedArray, key_of};
 use gd_model::{RunFault, Ty, Value};
@@ -17,7 +22,8 @@ use gd_text::Arg;
 use slot_arena::Handle;
 use std::alloc::Global;
 
-/// What the operator gives on the values; `b` is null for an operator that takes one.
+/// What the operator gives on the values; `b` counts for nothing where the operator takes one. `BadOperands` where
+/// there is no operator for their kinds, and otherwise the faults of docs/runtime.md, "Operators".
 pub fn apply<K: Look>(
     alloc: Global,
     op: Operator,
@@ -25,15 +31,11 @@ pub fn apply<K: Look>(
     b: &Value,
     look: &K,
 ) -> Result<Fresh, ThingFault>
-    ensures ints { IfSome (spec.two_ints a.now b.now) (λ p. result ≡ spec.answer (spec.ints_give op p.0 p.1)) }
-    ensures texts { IfSome (spec.two_texts a.now b.now) (λ p. TextsGive op p.0 p.1 result) }
-    ensures int { IfSome (spec.one_int op a.now b.now) (λ x. result ≡ spec.answer (spec.int_gives op x)) }
+    ensures { Applies (K.things look.now) op a.now b.now result }
 {
-    match (op, a, b) {
-        (_, Value::Int(x), Value::Int(y)) => apply_ints(op, *x, *y),
-        (_, Value::Str(x), Value::Str(y)) => apply_texts(alloc, op, x, y),
-        (Operator::Negate | Operator::Plus | Operator::Complement, Value::Int(x), Value::Nil) =>
-            apply_int(op, *x),
+    match (a, b) {
+        (Value::Int(x), Value::Int(y)) => apply_ints(op, *x, *y),
+        (Value::Str(x), Value::Str(y)) => apply_texts(alloc, op, x, y),
         _ => apply_others(alloc, op, a, b, look),
     }
 }
@@ -45,25 +47,91 @@ fn apply_others<K: Look>(
     a: &Value,
     b: &Value,
     look: &K,
-) -> Result<Fresh, ThingFault> {
-    if !takes(&row_of(op), kind_of(a), kind_of(b)) {
-        return refused(RunFault::BadOperands);
+) -> Result<Fresh, ThingFault>
+    ensures { OthersGive (K.things look.now) op a.now b.now result }
+{
+    match op {
+        Operator::Add => add(alloc, a, b, look),
+        Operator::Remainder => rest(alloc, a, b, look),
+        _ => apply_test(op, a, b, look),
     }
-    match (op, a, b) {
-        (Operator::Equal, _, _) => boolean(same(a, b, look)?),
-        (Operator::NotEqual, _, _) => boolean(!same(a, b, look)?),
-        (Operator::Not, _, _) => boolean(!truth(a, look)?),
-        (Operator::In, _, _) => boolean(is_inside(a, b, look)?),
-        (Operator::NotIn, _, _) => boolean(!is_inside(a, b, look)?),
-        (_, Value::Int(x), _) if is_unary(op) => apply_int(op, *x),
-        (Operator::Remainder, Value::Str(pattern), _) => format_one(alloc, pattern, b, look),
-        (Operator::Add, Value::Array(h), Value::Array(i)) => joined(alloc, *h, *i, look),
+}
+
+fn add<K: Look>(alloc: Global, a: &Value, b: &Value, look: &K) -> Result<Fresh, ThingFault>
+    ensures { SumGives (K.things look.now) a.now b.now result }
+{
+    match (a, b) {
+        (Value::Array(h), Value::Array(i)) => joined(alloc, *h, *i, look),
         _ => refused(RunFault::BadOperands),
     }
 }
 
+fn rest<K: Look>(alloc: Global, a: &Value, b: &Value, look: &K) -> Result<Fresh, ThingFault>
+    ensures { RestGives a.now result }
+{
+    match a {
+        Value::Str(pattern) => format_one(alloc, pattern, b, look),
+        _ => refused(RunFault::BadOperands),
+    }
+}
+
+/// The tests, and the operators before one operand.
+fn apply_test<K: Look>(op: Operator, a: &Value, b: &Value, look: &K) -> Result<Fresh, ThingFault>
+    ensures { Answers (spec.tests_give (K.things look.now) op a.now b.now) result }
+{
+    match op {
+        Operator::Equal => verdict(equal(a, b, look)),
+        Operator::NotEqual => opposite(equal(a, b, look)),
+        Operator::Not => opposite(truth(a, look)),
+        Operator::In => verdict(is_inside(a, b, look)),
+        Operator::NotIn => opposite(is_inside(a, b, look)),
+        Operator::Negate | Operator::Plus | Operator::Complement => one_int(op, a),
+        _ => refused(RunFault::BadOperands),
+    }
+}
+
+fn one_int(op: Operator, a: &Value) -> Result<Fresh, ThingFault>
+    ensures { result ≡ exact (spec.one_int op a.now) }
+{
+    match a {
+        Value::Int(x) => apply_int(op, *x),
+        _ => refused(RunFault::BadOperands),
+    }
+}
+
+fn verdict(made: Result<bool, ThingFault>) -> Result<Fresh, ThingFault>
+    ensures { (want : Option (Result Bool RunFault)) → Answers want made → Answers (in_form spec.bool_made want) result }
+{
+    match made {
+        Ok(yes) => boolean(yes),
+        Err(fault) => Err(fault),
+    }
+}
+
+fn opposite(made: Result<bool, ThingFault>) -> Result<Fresh, ThingFault>
+    ensures { (want : Option (Result Bool RunFault)) → Answers want made → Answers (in_form (λ yes. spec.bool_made (not yes)) want) result }
+{
+    match made {
+        Ok(yes) => boolean(!yes),
+        Err(fault) => Err(fault),
+    }
+}
+
+/// Whether the two are equal. `BadOperands` where they are of different kinds and neither is null.
+fn equal<K: Look>(a: &Value, b: &Value, look: &K) -> Result<bool, ThingFault>
+    ensures { result ≡ exact (spec.equal (K.things look.now) a.now b.now) }
+{
+    if alike(kind_of(a), kind_of(b)) {
+        same(a, b, look)
+    } else {
+        refused(RunFault::BadOperands)
+    }
+}
+
 /// Whether the value counts as true: all do but null, `false`, 0, `""` and what has no elements.
-pub fn truth<K: Look>(v: &Value, look: &K) -> Result<bool, ThingFault> {
+pub fn truth<K: Look>(v: &Value, look: &K) -> Result<bool, ThingFault>
+    ensures { result ≡ exact (spec.truth (K.things look.now) v.now) }
+{
     match v {
         Value::Nil => Ok(false),
         Value::Bool(b) => Ok(*b),
@@ -71,44 +139,63 @@ pub fn truth<K: Look>(v: &Value, look: &K) -> Result<bool, ThingFault> {
         Value::Str(text) => Ok(text.length() != 0),
         Value::Array(h) => match look.array(*h) {
             Some(array) => Ok(array.size() != 0),
-            None => Err(not_there()),
+            None => Err(never_comes()),
         },
         Value::Dict(h) => match look.dict(*h) {
             Some(dict) => Ok(dict.size() != 0),
-            None => Err(not_there()),
+            None => Err(never_comes()),
         },
         Value::Object(_) | Value::Callable(_) | Value::Signal(_, _) => Ok(true),
     }
 }
 
-/// Whether the value is an element of an array, or a key of a dictionary.
-fn is_inside<K: Look>(v: &Value, container: &Value, look: &K) -> Result<bool, ThingFault> {
+/// Whether the value is an element of an array, or a key of a dictionary. `BadKey` where it is no key, `BadOperands`
+/// where the other is no container.
+fn is_inside<K: Look>(v: &Value, container: &Value, look: &K) -> Result<bool, ThingFault>
+    ensures { Answers (spec.is_inside (K.things look.now) v.now container.now) result }
+{
     match container {
-        Value::Array(h) => match look.array(*h) {
-            Some(array) => Ok(first_place(array, v, 0, look)?.is_some()),
-            None => Err(not_there()),
-        },
-        Value::Dict(h) => {
-            let key = key_of(v)?;
-            match look.dict(*h) {
-                Some(dict) => Ok(dict.get(&key).is_some()),
-                None => Err(not_there()),
-            }
-        }
-        _ => Ok(false),
+        Value::Array(h) => is_element(v, *h, look),
+        Value::Dict(h) => has_key(v, *h, look),
+        _ => refused(RunFault::BadOperands),
     }
 }
 
-/// The first place from `from` on at which the array has an element that equals the value.
+fn is_element<K: Look>(v: &Value, h: Handle, look: &K) -> Result<bool, ThingFault>
+    ensures { result ≡ exact (spec.is_element (K.things look.now) v.now (array_behind (K.things look.now h))) }
+{
+    match look.array(h) {
+        Some(array) => match first_place(array, v, 0, look) {
+            Ok(place) => Ok(place.is_some()),
+            Err(fault) => Err(fault),
+        },
+        None => Err(never_comes()),
+    }
+}
+
+fn has_key<K: Look>(v: &Value, h: Handle, look: &K) -> Result<bool, ThingFault>
+    ensures { Answers (spec.has_key (spec.as_key v.now) (dict_behind (K.things look.now h))) result }
+{
+    let key = key_of(v)?;
+    match look.dict(h) {
+        Some(dict) => Ok(dict.get(&key).is_some()),
+        None => Err(never_comes()),
+    }
+}
+
+/// The first place from `from` on at which the array has an element that equals the value, the element being the left
+/// one of the two.
 pub fn first_place<K: Look>(
     array: &TypedArray,
     v: &Value,
-    from: i64,
+    from: u32,
     look: &K,
-) -> Result<Option<u32>, ThingFault> {
+) -> Result<Option<u32>, ThingFault>
+    ensures { result ≡ exact (spec.first_place (λ x. same (K.things look.now) x v.now) from (drop from array.now.items)) }
+{
     let items = array.items();
-    for i in 0..array.size() {
-        if i64::from(i) >= from && same(&items[i as usize], v, look)? {
+    for i in from..array.size() {
+        if same(&items[i as usize], v, look)? {
             return Ok(Some(i));
         }
     }
@@ -121,12 +208,14 @@ fn format_one<K: Look>(
     pattern: &Text,
     v: &Value,
     look: &K,
-) -> Result<Fresh, ThingFault> {
+) -> Result<Fresh, ThingFault>
+    ensures { FormatGives result }
+{
     let mut args = Vec::new(alloc);
     match v {
         Value::Array(h) => {
             let Some(array) = look.array(*h) else {
-                return Err(not_there());
+                return Err(never_comes());
             };
             for item in array.items() {
                 put_arg(alloc, &mut args, item, look)?;
@@ -142,11 +231,13 @@ fn put_arg<K: Look>(
     args: &mut Vec<Arg>,
     v: &Value,
     look: &K,
-) -> Result<(), ThingFault> {
+) -> Result<(), ThingFault>
+    ensures { IfErr result IsLimit }
+{
     let arg = match v {
         Value::Int(n) => Arg::Num(*n),
         Value::Str(text) => Arg::Str(text.share()?),
-        _ => Arg::Other(printed(alloc, v, look)?),
+        _ => Arg::Other(text_of(alloc, v, look)?),
     };
     match args.push(arg) {
         Ok(()) => Ok(()),
@@ -155,9 +246,12 @@ fn put_arg<K: Look>(
 }
 
 /// A new array of the elements of the one and then of the other, with their element type where they have one.
-fn joined<K: Look>(alloc: Global, h: Handle, i: Handle, look: &K) -> Result<Fresh, ThingFault> {
+/// `TooLong` exactly where they are too many.
+fn joined<K: Look>(alloc: Global, h: Handle, i: Handle, look: &K) -> Result<Fresh, ThingFault>
+    ensures { Joins (array_behind (K.things look.now h)) (array_behind (K.things look.now i)) result }
+{
     let (Some(x), Some(y)) = (look.array(h), look.array(i)) else {
-        return Err(not_there());
+        return Err(never_comes());
     };
     if x.items().len() + y.items().len() > MAX_ITEMS {
         return refused(RunFault::TooLong);
@@ -173,10 +267,25 @@ fn joined<K: Look>(alloc: Global, h: Handle, i: Handle, look: &K) -> Result<Fres
     Ok(Fresh::Array(all))
 }
 
-/// Puts the values at the end.
-pub fn push_all(array: &mut TypedArray, items: &[Value]) -> Result<(), ThingFault> {
+/// Puts the values at the end of an array that has room for them and is not read-only; only memory may lack.
+fn push_all(array: &mut TypedArray, items: &[Value]) -> Result<(), ThingFault>
+    requires open { array.old.fixed ≡ false }
+    requires room { length array.old.items + length items.now ≤ MAX_ITEMS }
+    ensures ok { OnOk result (array.new ≡ record array.old { items = array.old.items ++ items.now }) }
+    ensures err { IfErr result (λ fault. fault ≡ ThingFault.NoMemory) }
+{
     for item in items {
-        array.push(item.share()?, true)?;
+        push(array, item.share()?)?;
     }
     Ok(())
+}
+
+/// Puts a value at the end of an array that has room for it and is not read-only; only memory may lack.
+pub fn push(array: &mut TypedArray, v: Value) -> Result<(), ThingFault>
+    requires open { array.old.fixed ≡ false }
+    requires room { length array.old.items < MAX_ITEMS }
+    ensures ok { OnOk result (array.new ≡ record array.old { items = array.old.items ++ v ∷ [] }) }
+    ensures err { IfErr result (λ fault. fault ≡ ThingFault.NoMemory) }
+{
+    array.push(v, true)
 }

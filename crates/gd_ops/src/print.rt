@@ -1,13 +1,17 @@
 //! The printed forms of values.
-ghost use Rattle.std.specs.Prelude.{◌≡◌, ◌≤◌, length};
+ghost use Rattle.std.specs.Prelude.{◌≡◌, ◌∷◌, [], codes, map, option_and_then};
+ghost use Rattle.std.specs.Fmt.{decimal, signed_decimal};
+ghost use Rattle.gd_model.specs.Store.{array_behind, dict_behind, class_behind};
+ghost use Rattle.gd_containers.specs.Keys.{key_value};
+ghost use Rattle.gd_ops.specs.Printed as spec;
+ghost use Rattle.gd_ops.specs.Printed.{Puts, GivesForm, GivesFormString};
 
-use crate::equality::not_there;
+use crate::equality::never_comes;
 use crate::fresh::Fresh;
 use crate::texts::text_refusal;
 use gd_containers::{Look, OrderedDict, ThingFault, TypedArray};
 use gd_model::{Key, RunFault, Value};
 use gd_syntax::{MAX_TEXT, Text};
-use gd_text::decimal;
 use itoa::Buffer;
 use slot_arena::Handle;
 use std::alloc::Global;
@@ -15,94 +19,138 @@ use std::alloc::Global;
 /// How many containers deep a value is printed.
 const DEEPEST: u32 = 16;
 
-/// The printed form of the value.
-pub fn text_of<K: Look>(alloc: Global, v: &Value, look: &K) -> Result<Text, ThingFault> {
-    printed(alloc, v, look)
-}
-
-/// The printed form of the value.
-pub fn printed<K: Look>(alloc: Global, v: &Value, look: &K) -> Result<Text, ThingFault> {
+/// The printed form of the value. `TooLong` exactly where it passes the limit of a text.
+pub fn text_of<K: Look>(alloc: Global, v: &Value, look: &K) -> Result<Text, ThingFault>
+    ensures { GivesForm (spec.printed (K.things look.now) (K.names look.now) v.now) result }
+{
     match v {
         Value::Str(text) => Ok(text.share()?),
-        Value::Int(n) => made(decimal(alloc, *n)),
         _ => {
             let mut out = Vec::new(alloc);
-            put_value(&mut out, v, look, DEEPEST)?;
-            made(Text::of(out))
+            put_printed(&mut out, v, look)?;
+            made(out)
         }
     }
 }
 
-fn made(text: Result<Text, gd_syntax::TextFault>) -> Result<Text, ThingFault> {
-    match text {
+fn made(chars: Vec<char>) -> Result<Text, ThingFault>
+    ensures { GivesForm (Some chars.items) result }
+{
+    match Text::of(chars) {
         Ok(text) => Ok(text),
         Err(fault) => Err(text_refusal(fault)),
     }
 }
 
-/// Puts a character at the end, up to the limit of a text.
-fn put(out: &mut Vec<char>, c: char) -> Result<(), ThingFault> {
-    if out.len() >= MAX_TEXT {
+/// Puts the characters at the end. `TooLong` exactly where the whole would pass the limit of a text.
+fn put_chars(out: &mut Vec<char>, more: &[char]) -> Result<(), ThingFault>
+    ensures { Puts (Some more.now) out.old.items out.new.items result }
+{
+    if more.len() > MAX_TEXT.saturating_sub(out.len()) {
         return Err(ThingFault::Run(RunFault::TooLong));
     }
-    match out.push(c) {
+    match out.extend_from_slice(more) {
         Ok(()) => Ok(()),
         Err(_) => Err(ThingFault::NoMemory),
     }
 }
 
-fn put_str(out: &mut Vec<char>, text: &str) -> Result<(), ThingFault> {
-    for c in text.chars() {
-        put(out, c)?;
-    }
-    Ok(())
+fn put(out: &mut Vec<char>, c: char) -> Result<(), ThingFault>
+    ensures { Puts (Some (c ∷ [])) out.old.items out.new.items result }
+{
+    put_chars(out, &[c])
 }
 
-fn put_text(out: &mut Vec<char>, text: &Text) -> Result<(), ThingFault> {
-    for c in text.chars() {
-        put(out, *c)?;
+fn put_text(out: &mut Vec<char>, text: &Text) -> Result<(), ThingFault>
+    ensures { Puts (Some text.now) out.old.items out.new.items result }
+{
+    put_chars(out, text.chars())
+}
+
+/// Puts a word of ASCII characters at the end.
+fn put_word(out: &mut Vec<char>, word: &str) -> Result<(), ThingFault>
+    ensures { Puts (Some word.now) out.old.items out.new.items result }
+{
+    if word.len() > MAX_TEXT.saturating_sub(out.len()) {
+        return Err(ThingFault::Run(RunFault::TooLong));
+    }
+    for byte in word.as_bytes() {
+        if out.push(char::from(*byte)).is_err() {
+            return Err(ThingFault::NoMemory);
+        }
     }
     Ok(())
 }
 
 /// A String inside a container: in double quotes, with a backslash before what needs one.
-fn put_quoted(out: &mut Vec<char>, text: &Text) -> Result<(), ThingFault> {
+fn put_quoted(out: &mut Vec<char>, text: &Text) -> Result<(), ThingFault>
+    ensures { Puts (Some (spec.quoted text.now)) out.old.items out.new.items result }
+{
     put(out, '"')?;
-    for c in text.chars() {
-        match *c {
-            '"' | '\'' | '\\' => {
-                put(out, '\\')?;
-                put(out, *c)?;
-            }
-            '\u{7}' => put_str(out, "\\a")?,
-            '\u{8}' => put_str(out, "\\b")?,
-            '\u{c}' => put_str(out, "\\f")?,
-            '\n' => put_str(out, "\\n")?,
-            '\r' => put_str(out, "\\r")?,
-            '\t' => put_str(out, "\\t")?,
-            '\u{b}' => put_str(out, "\\v")?,
-            _ => put(out, *c)?,
-        }
-    }
+    put_escaped(out, text.chars())?;
     put(out, '"')
 }
 
-fn put_int(out: &mut Vec<char>, n: i64) -> Result<(), ThingFault> {
-    let mut buffer = Buffer::new();
-    put_str(out, buffer.format(n))
+fn put_escaped(out: &mut Vec<char>, text: &[char]) -> Result<(), ThingFault>
+    ensures { Puts (Some (spec.escaped text.now)) out.old.items out.new.items result }
+{
+    for c in text {
+        put_escape(out, *c)?;
+    }
+    Ok(())
 }
 
-fn put_serial(out: &mut Vec<char>, n: u64) -> Result<(), ThingFault> {
-    let mut buffer = Buffer::new();
-    put_str(out, buffer.format(n))
+fn put_escape(out: &mut Vec<char>, c: char) -> Result<(), ThingFault>
+    ensures { Puts (Some (spec.behind_backslash c (spec.escape_letter c))) out.old.items out.new.items result }
+{
+    match escape_letter(c) {
+        Some(letter) => {
+            put(out, '\\')?;
+            put(out, letter)
+        }
+        None => put(out, c),
+    }
 }
 
-fn put_object<K: Look>(out: &mut Vec<char>, h: Handle, look: &K) -> Result<(), ThingFault> {
+/// The letter that stands behind a backslash for the character, where one does.
+fn escape_letter(c: char) -> Option<char>
+    ensures { result ≡ spec.escape_letter c }
+{
+    match c {
+        '"' | '\'' | '\\' => Some(c),
+        '\u{7}' => Some('a'),
+        '\u{8}' => Some('b'),
+        '\t' => Some('t'),
+        '\n' => Some('n'),
+        '\u{b}' => Some('v'),
+        '\u{c}' => Some('f'),
+        '\r' => Some('r'),
+        _ => None,
+    }
+}
+
+fn put_int(out: &mut Vec<char>, n: i64) -> Result<(), ThingFault>
+    ensures { Puts (Some (signed_decimal n)) out.old.items out.new.items result }
+{
+    let mut buffer = Buffer::new();
+    put_word(out, buffer.format(n))
+}
+
+fn put_serial(out: &mut Vec<char>, n: u64) -> Result<(), ThingFault>
+    ensures { Puts (Some (decimal n)) out.old.items out.new.items result }
+{
+    let mut buffer = Buffer::new();
+    put_word(out, buffer.format(n))
+}
+
+fn put_object<K: Look>(out: &mut Vec<char>, h: Handle, look: &K) -> Result<(), ThingFault>
+    ensures { Puts (spec.object_form h.serial (option_and_then (K.names look.now) (class_behind (K.things look.now h)))) out.old.items out.new.items result }
+{
     let Some(class) = look.class_of(h) else {
-        return Err(not_there());
+        return Err(never_comes());
     };
     let Some(name) = look.class_name(class) else {
-        return Err(not_there());
+        return Err(never_comes());
     };
     put(out, '<')?;
     put_text(out, name)?;
@@ -111,124 +159,185 @@ fn put_object<K: Look>(out: &mut Vec<char>, h: Handle, look: &K) -> Result<(), T
     put(out, '>')
 }
 
-fn put_named(out: &mut Vec<char>, word: &str, name: &Text) -> Result<(), ThingFault> {
-    put_str(out, word)?;
+fn put_named(out: &mut Vec<char>, word: &str, name: &Text) -> Result<(), ThingFault>
+    ensures { Puts (Some (spec.named word.now name.now)) out.old.items out.new.items result }
+{
+    put_word(out, word)?;
     put_text(out, name)?;
     put(out, '>')
 }
 
-#[cycle(print)]
-fn put_value<K: Look>(
-    out: &mut Vec<char>,
-    v: &Value,
-    look: &K,
-    room: u32,
-) -> Result<(), ThingFault> {
+/// A value that is no container.
+fn put_plain<K: Look>(out: &mut Vec<char>, v: &Value, look: &K) -> Result<(), ThingFault>
+    ensures { Puts (spec.plain_form (K.things look.now) (K.names look.now) v.now) out.old.items out.new.items result }
+{
     match v {
-        Value::Nil => put_str(out, "<null>"),
-        Value::Bool(true) => put_str(out, "true"),
-        Value::Bool(false) => put_str(out, "false"),
+        Value::Nil => put_word(out, "<null>"),
+        Value::Bool(true) => put_word(out, "true"),
+        Value::Bool(false) => put_word(out, "false"),
         Value::Int(n) => put_int(out, *n),
         Value::Str(text) => put_quoted(out, text),
         Value::Object(h) => put_object(out, *h, look),
         Value::Callable(target) => put_named(out, "<callable ", &target.name),
         Value::Signal(_, name) => put_named(out, "<signal ", name),
-        Value::Array(_) if room == 0 => put_str(out, "[...]"),
-        Value::Dict(_) if room == 0 => put_str(out, "{...}"),
-        Value::Array(h) => match look.array(*h) {
-            Some(array) => put_array(out, array, look, room - 1),
-            None => Err(not_there()),
-        },
-        Value::Dict(h) => match look.dict(*h) {
-            Some(dict) => put_dict(out, dict, look, room - 1),
-            None => Err(not_there()),
-        },
+        Value::Array(_) | Value::Dict(_) => Err(never_comes()),
     }
 }
 
-#[cycle(print)]
-fn put_array<K: Look>(
-    out: &mut Vec<char>,
-    array: &TypedArray,
-    look: &K,
-    room: u32,
-) -> Result<(), ThingFault> {
-    put(out, '[')?;
-    for (i, item) in array.items().iter().enumerate() {
-        if i > 0 {
-            put_str(out, ", ")?;
-        }
-        put_value(out, item, look, room)?;
-    }
-    put(out, ']')
-}
-
-#[cycle(print)]
-fn put_dict<K: Look>(
-    out: &mut Vec<char>,
-    dict: &OrderedDict,
-    look: &K,
-    room: u32,
-) -> Result<(), ThingFault> {
-    if dict.size() == 0 {
-        return put_str(out, "{  }");
-    }
-    put_str(out, "{ ")?;
-    for i in 0..dict.size() {
-        if i > 0 {
-            put_str(out, ", ")?;
-        }
-        let Some((key, value)) = dict.at(i) else {
-            return Err(not_there());
-        };
-        put_key(out, key, look)?;
-        put_str(out, ": ")?;
-        put_value(out, value, look, room)?;
-    }
-    put_str(out, " }")
-}
-
-fn put_key<K: Look>(out: &mut Vec<char>, key: &Key, look: &K) -> Result<(), ThingFault> {
+fn put_key<K: Look>(out: &mut Vec<char>, key: &Key, look: &K) -> Result<(), ThingFault>
+    ensures { Puts (spec.plain_form (K.things look.now) (K.names look.now) (key_value key.now)) out.old.items out.new.items result }
+{
     match key {
-        Key::Nil => put_str(out, "<null>"),
-        Key::Bool(true) => put_str(out, "true"),
-        Key::Bool(false) => put_str(out, "false"),
+        Key::Nil => put_word(out, "<null>"),
+        Key::Bool(true) => put_word(out, "true"),
+        Key::Bool(false) => put_word(out, "false"),
         Key::Int(n) => put_int(out, *n),
         Key::Str(text) => put_quoted(out, text),
         Key::Object(h) => put_object(out, *h, look),
     }
 }
 
-/// The printed forms of the values, with the separator between them.
-pub fn joined_text<K: Look>(
-    alloc: Global,
-    values: &[Value],
-    separator: &str,
-    look: &K,
-) -> Result<Fresh, ThingFault> {
-    let mut out = Vec::new(alloc);
-    for (i, v) in values.iter().enumerate() {
-        if i > 0 {
-            put_str(&mut out, separator)?;
-        }
-        put_text(&mut out, &printed(alloc, v, look)?)?;
+/// A value inside of a container; `room` is how many containers may still lie inside one another.
+#[cycle(print)]
+fn put_value<K: Look>(out: &mut Vec<char>, v: &Value, look: &K, room: u32) -> Result<(), ThingFault>
+    ensures { Puts (spec.form_by (K.things look.now) (K.names look.now) (spec.inside (K.things look.now) (K.names look.now) room) v.now) out.old.items out.new.items result }
+{
+    match v {
+        Value::Array(h) => put_array(out, *h, look, room),
+        Value::Dict(h) => put_dict(out, *h, look, room),
+        _ => put_plain(out, v, look),
     }
-    Ok(Fresh::Value(Value::Str(made(Text::of(out))?)))
 }
 
-/// The printed forms of the values, with a text between them.
-pub fn joined_by<K: Look>(
+#[cycle(print)]
+fn put_array<K: Look>(out: &mut Vec<char>, h: Handle, look: &K, room: u32) -> Result<(), ThingFault>
+    ensures { Puts (spec.array_form (spec.inside (K.things look.now) (K.names look.now) room) (array_behind (K.things look.now h))) out.old.items out.new.items result }
+{
+    if room == 0 {
+        return put_word(out, "[...]");
+    }
+    let Some(array) = look.array(h) else {
+        return Err(never_comes());
+    };
+    put(out, '[')?;
+    put_items(out, array.items(), look, room - 1)?;
+    put(out, ']')
+}
+
+#[cycle(print)]
+fn put_items<K: Look>(
+    out: &mut Vec<char>,
+    items: &[Value],
+    look: &K,
+    room: u32,
+) -> Result<(), ThingFault>
+    ensures { Puts (spec.all_forms (codes ", ") (map (spec.form_by (K.things look.now) (K.names look.now) (spec.inside (K.things look.now) (K.names look.now) room)) items.now)) out.old.items out.new.items result }
+{
+    let [first, rest @ ..] = items else {
+        return Ok(());
+    };
+    put_value(out, first, look, room)?;
+    for item in rest {
+        put_word(out, ", ")?;
+        put_value(out, item, look, room)?;
+    }
+    Ok(())
+}
+
+#[cycle(print)]
+fn put_dict<K: Look>(out: &mut Vec<char>, h: Handle, look: &K, room: u32) -> Result<(), ThingFault>
+    ensures { Puts (spec.dict_form (spec.plain_form (K.things look.now) (K.names look.now)) (spec.inside (K.things look.now) (K.names look.now) room) (dict_behind (K.things look.now h))) out.old.items out.new.items result }
+{
+    if room == 0 {
+        return put_word(out, "{...}");
+    }
+    let Some(dict) = look.dict(h) else {
+        return Err(never_comes());
+    };
+    if dict.size() == 0 {
+        return put_word(out, "{  }");
+    }
+    put_word(out, "{ ")?;
+    put_pairs(out, dict, look, room - 1)?;
+    put_word(out, " }")
+}
+
+#[cycle(print)]
+fn put_pairs<K: Look>(
+    out: &mut Vec<char>,
+    dict: &OrderedDict,
+    look: &K,
+    room: u32,
+) -> Result<(), ThingFault>
+    ensures { Puts (spec.all_forms (codes ", ") (map (spec.pair_form (spec.plain_form (K.things look.now) (K.names look.now)) (spec.form_by (K.things look.now) (K.names look.now) (spec.inside (K.things look.now) (K.names look.now) room))) dict.now.pairs)) out.old.items out.new.items result }
+{
+    let Some((key, value)) = dict.at(0) else {
+        return Ok(());
+    };
+    put_pair(out, key, value, look, room)?;
+    for i in 1..dict.size() {
+        let Some((key, value)) = dict.at(i) else {
+            unreachable!();
+        };
+        put_word(out, ", ")?;
+        put_pair(out, key, value, look, room)?;
+    }
+    Ok(())
+}
+
+#[cycle(print)]
+fn put_pair<K: Look>(
+    out: &mut Vec<char>,
+    key: &Key,
+    value: &Value,
+    look: &K,
+    room: u32,
+) -> Result<(), ThingFault>
+    ensures { Puts (spec.pair_form (spec.plain_form (K.things look.now) (K.names look.now)) (spec.form_by (K.things look.now) (K.names look.now) (spec.inside (K.things look.now) (K.names look.now) room)) (key.now, value.now)) out.old.items out.new.items result }
+{
+    put_key(out, key, look)?;
+    put_word(out, ": ")?;
+    put_value(out, value, look, room)
+}
+
+fn put_printed<K: Look>(out: &mut Vec<char>, v: &Value, look: &K) -> Result<(), ThingFault>
+    ensures { Puts (spec.printed (K.things look.now) (K.names look.now) v.now) out.old.items out.new.items result }
+{
+    match v {
+        Value::Str(text) => put_text(out, text),
+        _ => put_value(out, v, look, DEEPEST),
+    }
+}
+
+fn put_all_printed<K: Look>(
+    out: &mut Vec<char>,
+    values: &[Value],
+    between: &[char],
+    look: &K,
+) -> Result<(), ThingFault>
+    ensures { Puts (spec.all_printed (K.things look.now) (K.names look.now) between.now values.now) out.old.items out.new.items result }
+{
+    let [first, rest @ ..] = values else {
+        return Ok(());
+    };
+    put_printed(out, first, look)?;
+    for v in rest {
+        put_chars(out, between)?;
+        put_printed(out, v, look)?;
+    }
+    Ok(())
+}
+
+/// The printed forms of the values, with the characters `between` them. `TooLong` exactly where all pass the limit.
+pub fn joined<K: Look>(
     alloc: Global,
     values: &[Value],
-    separator: &Text,
+    between: &[char],
     look: &K,
-) -> Result<Fresh, ThingFault> {
+) -> Result<Fresh, ThingFault>
+    ensures { GivesFormString (spec.all_printed (K.things look.now) (K.names look.now) between.now values.now) result }
+{
     let mut out = Vec::new(alloc);
-    for (i, v) in values.iter().enumerate() {
-        if i > 0 {
-            put_text(&mut out, separator)?;
-        }
-        put_text(&mut out, &printed(alloc, v, look)?)?;
-    }
-    Ok(Fresh::Value(Value::Str(made(Text::of(out))?)))
+    put_all_printed(&mut out, values, between, look)?;
+    Ok(Fresh::Value(Value::Str(made(out)?)))
 }

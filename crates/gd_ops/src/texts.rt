@@ -1,8 +1,10 @@
 //! The operators on Strings.
-ghost use Rattle.gd_ops.specs.Texts.{TextsGive, GivesString, text_fault};
+ghost use Rattle.gd_ops.specs.Texts.{TextsGive, FormatGives, text_meant, text_fault};
+ghost use Rattle.gd_ops.specs.Answer.{Answers};
 ghost use Rattle.gd_text.specs.Text.{Gives};
 ghost use Rattle.std.specs.Prelude.{◌≡◌, List, ℕ, Option};
 
+use crate::equality::never_comes;
 use crate::fresh::{Fresh, boolean, refused};
 use gd_containers::ThingFault;
 use gd_model::{RunFault, Value};
@@ -18,13 +20,14 @@ pub fn text_refusal(fault: TextFault) -> ThingFault
     match fault {
         TextFault::TooLong => ThingFault::Run(RunFault::TooLong),
         TextFault::OutOfRange => ThingFault::Run(RunFault::OutOfRange),
-        TextFault::NotUtf8 | TextFault::NoMemory => ThingFault::NoMemory,
+        TextFault::NotUtf8 => never_comes(),
+        TextFault::NoMemory => ThingFault::NoMemory,
     }
 }
 
 /// The text as what a call gives.
 pub fn text(made: Result<Text, TextFault>) -> Result<Fresh, ThingFault>
-    ensures { (want : Option (List ℕ)) → Gives want made → GivesString want result }
+    ensures { (want : Option (List ℕ)) → Gives want made → Answers (text_meant want) result }
 {
     match made {
         Ok(text) => Ok(Fresh::Value(Value::Str(text))),
@@ -32,8 +35,10 @@ pub fn text(made: Result<Text, TextFault>) -> Result<Fresh, ThingFault>
     }
 }
 
-/// The text that a pattern gives.
-pub fn formatted(alloc: Global, pattern: &Text, args: &[Arg]) -> Result<Fresh, ThingFault> {
+/// The text that a pattern gives. `BadFormat`, then `TooLong`.
+pub fn formatted(alloc: Global, pattern: &Text, args: &[Arg]) -> Result<Fresh, ThingFault>
+    ensures { FormatGives result }
+{
     match format(alloc, pattern, args) {
         Ok(text) => Ok(Fresh::Value(Value::Str(text))),
         Err(FormatFault::BadFormat) => refused(RunFault::BadFormat),

@@ -1,15 +1,12 @@
-use Rattle.std.proofs.Common.{◌≡◌, ℕ, List, Option, Err, sym, ap, subst}
-use Rattle.gd_syntax.specs.declared.text.TextFault.{TextFault}
-use Rattle.gd_syntax.specs.declared.text.TextFault.TheVariants as t
+use Rattle.std.proofs.Common.{◌≡◌, Err, Ok, sym, subst}
 use Rattle.gd_text.specs.Text.{Gives}
-use Rattle.gd_ops.specs.Texts.{GivesString, text_fault}
+use Rattle.gd_ops.specs.Answer.{Answers}
+use Rattle.gd_ops.specs.Texts.{text_meant, text_fault}
+use Rattle.gd_ops.proofs.TextAnswers.{text_made, text_not_made}
 use Rattle.gd_ops.proofs.texts.text.Goals as goal
 
-refused_text : (f : TextFault) (want : Option (List ℕ)) → Gives want (Err f) → GivesString want (Err (text_fault f))
-refused_text t.TooLong want h = h
-refused_text t.OutOfRange want h = h
-refused_text t.NotUtf8 want h = absurd h
-refused_text t.NoMemory want h = tt
+pub returns-in-Ok : goal.returns-in-Ok
+returns-in-Ok c = λ want h. text_made want c.in-Ok.text (subst (Gives want) c.in-Ok.is h)
 
 pub returns-in-Err : goal.returns-in-Err
-returns-in-Err c = λ want h. subst (λ x. GivesString want (Err x)) (sym c.text_refusal.ensures) (refused_text c.in-Err.fault want (subst (Gives want) c.in-Err.is h))
+returns-in-Err c = λ want h. subst (λ x. Answers (text_meant want) (Err x)) (sym c.text_refusal.ensures) (text_not_made want c.in-Err.fault (subst (Gives want) c.in-Err.is h))

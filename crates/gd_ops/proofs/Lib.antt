@@ -1,0 +1,4 @@
+pub mod Equal
+pub mod Answer
+pub mod Printed
+pub mod TextAnswers

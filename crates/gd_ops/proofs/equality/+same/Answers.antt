@@ -1,0 +1,99 @@
+use Rattle.std.proofs.Common.{◌≡◌, ℕ, ◌+◌, ◌-◌, ◌<◌, Bool, true, false, List, length, Option, None, Some, Ok, Err, refl, ap, sym, ◌∙◌, arith}
+use Rattle.std.proofs.lemmas.Result.{err_from_is_err_and}
+use Rattle.gd_ops.proofs.Equal.{arrays_too_deep, dicts_too_deep, arrays_open, dicts_open, no_left_array, no_right_array, no_left_dict, other_size_arrays, same_size_arrays, other_size_dicts, same_size_dicts, no_right_dict, items_yes, items_fault, pairs_yes, pairs_fault, pairs_no, pairs_lacking}
+use Rattle.gd_model.specs.Store.{array_behind, dict_behind}
+use Rattle.gd_ops.specs.Answer.{exact}
+use Rattle.gd_ops.specs.Equality as spec
+use Rattle.gd_ops.proofs.equality.+same.Goals as goal
+
+pub same_arrays-returns-then-room-eq0 : goal.same_arrays-returns-then-room-eq0
+same_arrays-returns-then-room-eq0 g t c = arrays_too_deep (g.K.Look.things c.args.look.now) c.args.h c.args.i c.args.room c.if-room-eq0.true
+
+pub same_dicts-returns-then-room-eq0 : goal.same_dicts-returns-then-room-eq0
+same_dicts-returns-then-room-eq0 g t c = dicts_too_deep (g.K.Look.things c.args.look.now) c.args.h c.args.i c.args.room c.if-room-eq0.true
+
+pub same_arrays-returns-in_default : goal.same_arrays-returns-in_default
+same_arrays-returns-in_default g t c =
+    let T = g.K.Look.things c.args.look.now in
+    let room : c.args.room ≡ (c.args.room - 1) + 1 = omega arith in
+    ap (λ f. Err f) c.never_comes.ensures ∙ sym (no_left_array (spec.same_by T (spec.inside T (c.args.room - 1))) (array_behind (T c.args.i))) ∙ arrays_open T c.args.h c.args.i c.args.room (c.args.room - 1) None (array_behind (T c.args.i)) room c.in_default.ensures refl
+
+pub same_arrays-returns-in_default-array : goal.same_arrays-returns-in_default-array
+same_arrays-returns-in_default-array g t c =
+    let T = g.K.Look.things c.args.look.now in
+    let room : c.args.room ≡ (c.args.room - 1) + 1 = omega arith in
+    ap (λ f. Err f) c.never_comes-in_default-array.ensures ∙ sym (no_right_array (spec.same_by T (spec.inside T (c.args.room - 1))) c.in-Some.x.now) ∙ arrays_open T c.args.h c.args.i c.args.room (c.args.room - 1) (Some c.in-Some.x.now) None room c.in-Some.ensures c.in_default-array.ensures
+
+pub same_arrays-returns-then-size : goal.same_arrays-returns-then-size
+same_arrays-returns-then-size g t c =
+    let T = g.K.Look.things c.args.look.now in
+    let room : c.args.room ≡ (c.args.room - 1) + 1 = omega arith in
+    let ne : ¬ (length c.in-Some.x.now.items ≡ length c.in-Some-array.y.now.items) = λ e. c.if-size.true (c.size.ensures.value ∙ e ∙ sym c.size-2.ensures.value) in
+    sym (other_size_arrays (spec.same_by T (spec.inside T (c.args.room - 1))) c.in-Some.x.now c.in-Some-array.y.now ne) ∙ arrays_open T c.args.h c.args.i c.args.room (c.args.room - 1) (Some c.in-Some.x.now) (Some c.in-Some-array.y.now) room c.in-Some.ensures c.in-Some-array.ensures
+
+pub same_arrays-returns : goal.same_arrays-returns
+same_arrays-returns g t c =
+    let T = g.K.Look.things c.args.look.now in
+    let room : c.args.room ≡ (c.args.room - 1) + 1 = omega arith in
+    let e : length c.in-Some.x.now.items ≡ length c.in-Some-array.y.now.items = sym c.size.ensures.value ∙ c.if-size.false ∙ c.size-2.ensures.value in
+    let eq = spec.same_by T (spec.inside T (c.args.room - 1)) in
+    c.same_items.ensures ∙ (λ k. exact (spec.same_items eq (c.items.ensures k) (c.items-2.ensures k))) ∙ sym (same_size_arrays eq c.in-Some.x.now c.in-Some-array.y.now e) ∙ arrays_open T c.args.h c.args.i c.args.room (c.args.room - 1) (Some c.in-Some.x.now) (Some c.in-Some-array.y.now) room c.in-Some.ensures c.in-Some-array.ensures
+
+pub same_dicts-returns-in_default : goal.same_dicts-returns-in_default
+same_dicts-returns-in_default g t c =
+    let T = g.K.Look.things c.args.look.now in
+    let room : c.args.room ≡ (c.args.room - 1) + 1 = omega arith in
+    ap (λ f. Err f) c.never_comes.ensures ∙ sym (no_left_dict (spec.same_by T (spec.inside T (c.args.room - 1))) (dict_behind (T c.args.i))) ∙ dicts_open T c.args.h c.args.i c.args.room (c.args.room - 1) None (dict_behind (T c.args.i)) room c.in_default.ensures refl
+
+pub same_dicts-returns-in_default-dict : goal.same_dicts-returns-in_default-dict
+same_dicts-returns-in_default-dict g t c =
+    let T = g.K.Look.things c.args.look.now in
+    let room : c.args.room ≡ (c.args.room - 1) + 1 = omega arith in
+    ap (λ f. Err f) c.never_comes-in_default-dict.ensures ∙ sym (no_right_dict (spec.same_by T (spec.inside T (c.args.room - 1))) c.in-Some.x.now) ∙ dicts_open T c.args.h c.args.i c.args.room (c.args.room - 1) (Some c.in-Some.x.now) None room c.in-Some.ensures c.in_default-dict.ensures
+
+pub same_dicts-returns-then-size : goal.same_dicts-returns-then-size
+same_dicts-returns-then-size g t c =
+    let T = g.K.Look.things c.args.look.now in
+    let room : c.args.room ≡ (c.args.room - 1) + 1 = omega arith in
+    let ne : ¬ (length c.in-Some.x.now.pairs ≡ length c.in-Some-dict.y.now.pairs) = λ e. c.if-size.true (c.size.ensures.value ∙ e ∙ sym c.size-2.ensures.value) in
+    sym (other_size_dicts (spec.same_by T (spec.inside T (c.args.room - 1))) c.in-Some.x.now c.in-Some-dict.y.now ne) ∙ dicts_open T c.args.h c.args.i c.args.room (c.args.room - 1) (Some c.in-Some.x.now) (Some c.in-Some-dict.y.now) room c.in-Some.ensures c.in-Some-dict.ensures
+
+pub same_dicts-returns : goal.same_dicts-returns
+same_dicts-returns g t c =
+    let T = g.K.Look.things c.args.look.now in
+    let room : c.args.room ≡ (c.args.room - 1) + 1 = omega arith in
+    let e : length c.in-Some.x.now.pairs ≡ length c.in-Some-dict.y.now.pairs = sym c.size.ensures.value ∙ c.if-size.false ∙ c.size-2.ensures.value in
+    let eq = spec.same_by T (spec.inside T (c.args.room - 1)) in
+    c.same_pairs.ensures ∙ sym (same_size_dicts eq c.in-Some.x.now c.in-Some-dict.y.now e) ∙ dicts_open T c.args.h c.args.i c.args.room (c.args.room - 1) (Some c.in-Some.x.now) (Some c.in-Some-dict.y.now) room c.in-Some.ensures c.in-Some-dict.ensures
+
+pub same_items-loop-i-preserved : goal.same_items-loop-i-preserved
+same_items-loop-i-preserved g t c =
+    let eq = spec.same_by (g.K.Look.things c.args.look.now) (spec.inside (g.K.Look.things c.args.look.now) c.args.room) in
+    items_yes eq c.args.x.now c.args.y.now c.loop-i.i c.index-x-i.result c.index-y-i.result (omega arith) (omega arith) c.index-x-i.is c.index-y-i.is (sym c.in_ok-same_within.ensures ∙ ap (λ b. Ok b) c.if-not-branch.false) ∙ c.loop-i.invariant
+
+pub same_items-returns-in_err-same_within : goal.same_items-returns-in_err-same_within
+same_items-returns-in_err-same_within g t c =
+    let eq = spec.same_by (g.K.Look.things c.args.look.now) (spec.inside (g.K.Look.things c.args.look.now) c.args.room) in
+    let p = err_from_is_err_and c.from_residual.result c.from_residual.ensures.1 in
+    rw (p.1, p.2) (sym (ap exact (sym c.loop-i.invariant) ∙ items_fault eq c.args.x.now c.args.y.now c.loop-i.i c.index-x-i.result c.index-y-i.result _ (omega arith) (omega arith) c.index-x-i.is c.index-y-i.is (sym c.in_err-same_within.ensures)))
+
+pub same_pairs-loop-i-preserved : goal.same_pairs-loop-i-preserved
+same_pairs-loop-i-preserved g t c =
+    let eq = spec.same_by (g.K.Look.things c.args.look.now) (spec.inside (g.K.Look.things c.args.look.now) c.args.room) in
+    pairs_yes eq c.args.x.now.pairs c.args.y.now.pairs c.loop-i.i c.in-Some.key.now c.in-Some.a.now c.in-Some-get.b.now c.in-Some.ensures c.in-Some-get.ensures (sym c.in_ok-same_within.ensures ∙ ap (λ b. Ok b) c.if-not-branch.false) ∙ c.loop-i.invariant
+
+pub same_pairs-returns-in_err-same_within : goal.same_pairs-returns-in_err-same_within
+same_pairs-returns-in_err-same_within g t c =
+    let eq = spec.same_by (g.K.Look.things c.args.look.now) (spec.inside (g.K.Look.things c.args.look.now) c.args.room) in
+    let p = err_from_is_err_and c.from_residual.result c.from_residual.ensures.1 in
+    rw (p.1, p.2) (sym (ap exact (sym c.loop-i.invariant) ∙ pairs_fault eq c.args.x.now.pairs c.args.y.now.pairs c.loop-i.i c.in-Some.key.now c.in-Some.a.now c.in-Some-get.b.now _ c.in-Some.ensures c.in-Some-get.ensures (sym c.in_err-same_within.ensures)))
+
+pub same_pairs-returns-then-not-branch : goal.same_pairs-returns-then-not-branch
+same_pairs-returns-then-not-branch g t c =
+    let eq = spec.same_by (g.K.Look.things c.args.look.now) (spec.inside (g.K.Look.things c.args.look.now) c.args.room) in
+    sym (ap exact (sym c.loop-i.invariant) ∙ pairs_no eq c.args.x.now.pairs c.args.y.now.pairs c.loop-i.i c.in-Some.key.now c.in-Some.a.now c.in-Some-get.b.now c.in-Some.ensures c.in-Some-get.ensures (sym c.in_ok-same_within.ensures ∙ ap (λ b. Ok b) c.if-not-branch.true))
+
+pub same_pairs-returns-in_default-get : goal.same_pairs-returns-in_default-get
+same_pairs-returns-in_default-get g t c =
+    let eq = spec.same_by (g.K.Look.things c.args.look.now) (spec.inside (g.K.Look.things c.args.look.now) c.args.room) in
+    sym (ap exact (sym c.loop-i.invariant) ∙ pairs_lacking eq c.args.x.now.pairs c.args.y.now.pairs c.loop-i.i c.in-Some.key.now c.in-Some.a.now c.in-Some.ensures c.in_default-get.ensures)

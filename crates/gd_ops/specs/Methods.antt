@@ -1,0 +1,145 @@
+-- What the methods give that do not write. Another number of arguments is refused first, and then values of other kinds.
+use Rattle.std.specs.Prelude.{◌≡◌, ℕ, ◌+◌, Bool, true, false, not, ◌||◌, ◌==◌, nat_eq, nat_lt, nat_le, List, [], ◌∷◌, ◌++◌, length, map, fold, drop, slice_get, slice_range, is_some, Option, None, Some, Result, Ok, Err, ℤ, pos, negsuc, if◌then◌else◌}
+use Rattle.std.specs.List.{starts_with, ends_with}
+use Rattle.slot_arena.specs.declared.handle.Handle.{Handle}
+use Rattle.gd_model.specs.declared.fault.RunFault.{RunFault}
+use Rattle.gd_model.specs.declared.fault.RunFault.TheVariants.{NoSuchMethod, NullReceiver, OutOfRange, TooLong, WrongNumberOfArguments, ValueOfAnotherType}
+use Rattle.gd_model.specs.declared.ty.Ty.TheVariants as ty
+use Rattle.gd_model.specs.declared.value.Key.{Key}
+use Rattle.gd_model.specs.declared.value.Value.{Value}
+use Rattle.gd_model.specs.declared.value.Value.TheVariants as v
+use Rattle.gd_model.specs.Place as place
+use Rattle.gd_model.specs.Store.{Thing, array_behind, dict_behind}
+use Rattle.gd_model.specs.Thing.{ArrayThing, DictThing, value_at, with_pair}
+use Rattle.gd_containers.specs.Answers.{item_at}
+use Rattle.gd_containers.specs.Keys.{key_value}
+use Rattle.gd_containers.specs.declared.fault.ThingFault.{ThingFault}
+use Rattle.gd_containers.specs.declared.fault.ThingFault.TheVariants.{NoMemory}
+use Rattle.gd_text.specs.Number.{is_valid_int, to_int}
+use Rattle.gd_text.specs.Search.{find, replaced, split}
+use Rattle.gd_text.specs.Text.{left, right, repeated, substr, stripped}
+use Rattle.gd_ops.specs.declared.builtin.Builtin.{Builtin}
+use Rattle.gd_ops.specs.declared.builtin.Builtin.TheVariants as b
+use Rattle.gd_ops.specs.declared.fresh.Fresh.{Fresh}
+use Rattle.gd_ops.specs.declared.fresh.Fresh.TheVariants.{Value as Made, Array as MadeArray, Dict as MadeDict}
+use Rattle.gd_ops.specs.Answer.{and_then, in_form, Answers}
+use Rattle.gd_ops.specs.Equality.{same}
+use Rattle.gd_ops.specs.Functions.{int_made, one_int}
+use Rattle.gd_ops.specs.Printed.{GivesFormString, all_printed}
+use Rattle.gd_ops.specs.Texts.{text_meant}
+use Rattle.gd_ops.specs.Values.{bool_made, as_key, first_place}
+
+-- arguments that fit no form of a call: their number, or else the kind of one
+abbrev pub misfit : {A : Type 0} → ℕ → ℕ → List Value → Option (Result A RunFault)
+misfit least most args = Some (Err (if nat_lt (length args) least || nat_lt most (length args) then WrongNumberOfArguments else ValueOfAnotherType))
+
+-- a call without arguments
+abbrev pub alone : Option (Result Fresh RunFault) → List Value → Option (Result Fresh RunFault)
+alone gives [] = gives
+alone gives args = Some (Err WrongNumberOfArguments)
+
+-- the arguments of a call, with what stands for one that is left out
+abbrev pub int_and_maybe : ℤ → List Value → Option (Result (ℤ × ℤ) RunFault)
+int_and_maybe other (v.Int x ∷ []) = Some (Ok (x, other))
+int_and_maybe other (v.Int x ∷ v.Int y ∷ []) = Some (Ok (x, y))
+int_and_maybe other args = misfit 1 2 args
+
+abbrev pub one_text : List Value → Option (Result (List ℕ) RunFault)
+one_text (v.Str t ∷ []) = Some (Ok t)
+one_text args = misfit 1 1 args
+
+abbrev pub text_and_maybe : List Value → Option (Result (List ℕ × ℤ) RunFault)
+text_and_maybe (v.Str t ∷ []) = Some (Ok (t, pos 0))
+text_and_maybe (v.Str t ∷ v.Int from ∷ []) = Some (Ok (t, from))
+text_and_maybe args = misfit 1 2 args
+
+abbrev pub two_texts : List Value → Option (Result (List ℕ × List ℕ) RunFault)
+two_texts (v.Str t ∷ v.Str u ∷ []) = Some (Ok (t, u))
+two_texts args = misfit 2 2 args
+
+abbrev pub split_args : List Value → Option (Result (List ℕ × Bool) RunFault)
+split_args [] = Some (Ok ([], true))
+split_args (v.Str by ∷ []) = Some (Ok (by, true))
+split_args (v.Str by ∷ v.Bool empty ∷ []) = Some (Ok (by, empty))
+split_args args = misfit 0 2 args
+
+-- a place as an int, -1 standing for none
+abbrev pub place_made : Option ℕ → Fresh
+place_made None = int_made (negsuc 0)
+place_made (Some i) = int_made (pos i)
+
+-- an array that may be too long
+abbrev pub array_meant : ArrayThing → Option (Result Fresh RunFault)
+array_meant a = Some (if nat_le (length a.items) 16777216 then Ok (MadeArray a) else Err TooLong)
+
+-- the methods of a String without arguments
+abbrev pub text_alone : Builtin → List ℕ → Option (Result Fresh RunFault)
+text_alone b.StringLength a = Some (Ok (int_made (pos (length a))))
+text_alone b.StringIsEmpty a = Some (Ok (bool_made (length a == 0)))
+text_alone b.StringIsValidInt a = Some (Ok (bool_made (is_valid_int a)))
+text_alone b.StringToInt a = Some (Ok (int_made (to_int a)))
+text_alone b.StringStripEdges a = text_meant (Some (stripped a))
+text_alone method a = Some (Err NoSuchMethod)
+
+-- the code point at a place
+abbrev pub code_made : Option ℕ → Option (Result Fresh RunFault)
+code_made None = Some (Err OutOfRange)
+code_made (Some c) = Some (Ok (int_made (pos c)))
+
+abbrev pub unicode_at : List ℕ → ℤ → Option (Result Fresh RunFault)
+unicode_at a (pos i) = code_made (slice_get a i)
+unicode_at a (negsuc k) = Some (Err OutOfRange)
+
+-- the methods of a String with an int
+abbrev pub text_with_int : Builtin → List ℕ → ℤ → Option (Result Fresh RunFault)
+text_with_int b.StringLeft a n = text_meant (Some (left a n))
+text_with_int b.StringRight a n = text_meant (Some (right a n))
+text_with_int b.StringRepeat a n = text_meant (repeated a n)
+text_with_int b.StringUnicodeAt a n = unicode_at a n
+text_with_int method a n = Some (Err NoSuchMethod)
+
+-- the methods of a String that test it with another
+abbrev pub text_test : Builtin → List ℕ → List ℕ → Bool
+text_test b.StringContains a w = is_some (find a w (pos 0))
+text_test b.StringBeginsWith a w = starts_with nat_eq a w
+text_test method a w = ends_with nat_eq a w
+
+-- the parts of a String as an array of Strings
+abbrev pub array_of_texts : List (List ℕ) → ArrayThing
+array_of_texts ts = record { element = ty.Str; fixed = false; items = map (λ t. v.Str t) ts }
+
+abbrev pub parts_array : List ℕ → List ℕ → Bool → ArrayThing
+parts_array a by empty = array_of_texts (split a by empty)
+
+-- the methods of a String but `join`
+abbrev pub texts_call : Builtin → List ℕ → List Value → Option (Result Fresh RunFault)
+texts_call b.StringLength a args = alone (text_alone b.StringLength a) args
+texts_call b.StringIsEmpty a args = alone (text_alone b.StringIsEmpty a) args
+texts_call b.StringIsValidInt a args = alone (text_alone b.StringIsValidInt a) args
+texts_call b.StringToInt a args = alone (text_alone b.StringToInt a) args
+texts_call b.StringStripEdges a args = alone (text_alone b.StringStripEdges a) args
+texts_call b.StringLeft a args = and_then (one_int args) (text_with_int b.StringLeft a)
+texts_call b.StringRight a args = and_then (one_int args) (text_with_int b.StringRight a)
+texts_call b.StringRepeat a args = and_then (one_int args) (text_with_int b.StringRepeat a)
+texts_call b.StringUnicodeAt a args = and_then (one_int args) (text_with_int b.StringUnicodeAt a)
+texts_call b.StringSubstr a args = and_then (int_and_maybe (negsuc 0) args) (λ p. text_meant (substr a p.0 p.1))
+texts_call b.StringContains a args = in_form (λ w. bool_made (text_test b.StringContains a w)) (one_text args)
+texts_call b.StringBeginsWith a args = in_form (λ w. bool_made (text_test b.StringBeginsWith a w)) (one_text args)
+texts_call b.StringEndsWith a args = in_form (λ w. bool_made (text_test b.StringEndsWith a w)) (one_text args)
+texts_call b.StringFind a args = in_form (λ p. place_made (find a p.0 p.1)) (text_and_maybe args)
+texts_call b.StringReplace a args = and_then (two_texts args) (λ p. text_meant (Some (replaced a p.0 p.1)))
+texts_call b.StringSplit a args = and_then (split_args args) (λ p. array_meant (parts_array a p.0 p.1))
+texts_call method a args = Some (Err NoSuchMethod)
+
+-- the printed elements with the text between them
+abbrev pub ElementsGive : (Handle → Option Thing) → (ℕ → Option (List ℕ)) → List ℕ → Option ArrayThing → Result Fresh ThingFault → Type 0
+ElementsGive things names a None r = r ≡ Err NoMemory
+ElementsGive things names a (Some parts) r = GivesFormString (all_printed things names a parts.items) r
+
+abbrev pub JoinGives : (Handle → Option Thing) → (ℕ → Option (List ℕ)) → List ℕ → List Value → Result Fresh ThingFault → Type 0
+JoinGives things names a (v.Array h ∷ []) r = ElementsGive things names a (array_behind (things h)) r
+JoinGives things names a args r = Answers (misfit 1 1 args) r
+
+abbrev pub TextCallGives : (Handle → Option Thing) → (ℕ → Option (List ℕ)) → Builtin → List ℕ → List Value → Result Fresh ThingFault → Type 0
+TextCallGives things names b.StringJoin a args r = JoinGives things names a args r
+TextCallGives things names method a args r = Answers (texts_call method a args) r

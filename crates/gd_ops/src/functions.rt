@@ -1,0 +1,281 @@
+//! The functions of ints and of single values (docs/runtime.md, "Builtins").
+ghost use Rattle.std.specs.Prelude.{◌≡◌};
+ghost use Rattle.std.specs.Int.{int_min, int_max};
+ghost use Rattle.gd_ops.specs.Answer.{and_then, exact, in_form};
+ghost use Rattle.gd_ops.specs.Functions as spec;
+
+use crate::builtin::Builtin;
+use crate::equality::{is_same, never_comes};
+use crate::fresh::{Fresh, boolean, int, refused};
+use gd_containers::{Look, ThingFault};
+use gd_model::{RunFault, Value};
+use gd_text::to_int;
+
+/// A function of ints. `WrongNumberOfArguments`, then `ValueOfAnotherType`, then `ZeroDivisorOrStep`.
+pub fn call_on_ints(builtin: Builtin, args: &[Value]) -> Result<Fresh, ThingFault>
+    ensures { result ≡ exact (in_form spec.int_made (spec.ints_call builtin args.now)) }
+{
+    int(int_of_ints(builtin, args)?)
+}
+
+fn int_of_ints(builtin: Builtin, args: &[Value]) -> Result<i64, ThingFault>
+    ensures { result ≡ exact (spec.ints_call builtin args.now) }
+{
+    match builtin {
+        Builtin::Abs | Builtin::Absi | Builtin::Sign | Builtin::Signi => {
+            call_on_one(builtin, args)
+        }
+        Builtin::Mini | Builtin::Maxi | Builtin::Posmod => call_on_two(builtin, args),
+        Builtin::Clamp | Builtin::Clampi => clamp(args),
+        Builtin::Min => least(args),
+        Builtin::Max => greatest(args),
+        _ => refused(RunFault::NoSuchMethod),
+    }
+}
+
+fn call_on_one(builtin: Builtin, args: &[Value]) -> Result<i64, ThingFault>
+    ensures { result ≡ exact (in_form (spec.of_int builtin) (spec.one_int args.now)) }
+{
+    Ok(of_int(builtin, one_int(args)?))
+}
+
+fn of_int(builtin: Builtin, n: i64) -> i64
+    ensures { result ≡ spec.of_int builtin n }
+{
+    match builtin {
+        Builtin::Abs | Builtin::Absi => n.wrapping_abs(),
+        _ => n.signum(),
+    }
+}
+
+fn call_on_two(builtin: Builtin, args: &[Value]) -> Result<i64, ThingFault>
+    ensures { result ≡ exact (and_then (spec.two_ints args.now) (spec.of_pair builtin)) }
+{
+    let (x, y) = two_ints(args)?;
+    of_pair(builtin, x, y)
+}
+
+fn of_pair(builtin: Builtin, x: i64, y: i64) -> Result<i64, ThingFault>
+    ensures { result ≡ exact (spec.of_pair builtin (x, y)) }
+{
+    match builtin {
+        Builtin::Mini => Ok(smaller(x, y)),
+        Builtin::Maxi => Ok(larger(x, y)),
+        _ => posmod(x, y),
+    }
+}
+
+fn clamp(args: &[Value]) -> Result<i64, ThingFault>
+    ensures { result ≡ exact (in_form spec.clamped (spec.three_ints args.now)) }
+{
+    Ok(clamped(three_ints(args)?))
+}
+
+/// The one argument, an int.
+pub fn one_int(args: &[Value]) -> Result<i64, ThingFault>
+    ensures { result ≡ exact (spec.one_int args.now) }
+{
+    match args {
+        [Value::Int(n)] => Ok(*n),
+        [_] => refused(RunFault::ValueOfAnotherType),
+        _ => refused(RunFault::WrongNumberOfArguments),
+    }
+}
+
+fn two_ints(args: &[Value]) -> Result<(i64, i64), ThingFault>
+    ensures { result ≡ exact (spec.two_ints args.now) }
+{
+    match args {
+        [Value::Int(x), Value::Int(y)] => Ok((*x, *y)),
+        [_, _] => refused(RunFault::ValueOfAnotherType),
+        _ => refused(RunFault::WrongNumberOfArguments),
+    }
+}
+
+fn three_ints(args: &[Value]) -> Result<(i64, i64, i64), ThingFault>
+    ensures { result ≡ exact (spec.three_ints args.now) }
+{
+    match args {
+        [Value::Int(x), Value::Int(y), Value::Int(z)] => Ok((*x, *y, *z)),
+        [_, _, _] => refused(RunFault::ValueOfAnotherType),
+        _ => refused(RunFault::WrongNumberOfArguments),
+    }
+}
+
+fn smaller(x: i64, y: i64) -> i64
+    ensures { result ≡ int_min x y }
+{
+    if y < x { y } else { x }
+}
+
+fn larger(x: i64, y: i64) -> i64
+    ensures { result ≡ int_max x y }
+{
+    if y < x { x } else { y }
+}
+
+/// The least of two or more ints.
+fn least(args: &[Value]) -> Result<i64, ThingFault>
+    ensures { result ≡ exact (spec.many_picked int_min args.now) }
+{
+    match args {
+        [] | [_] => refused(RunFault::WrongNumberOfArguments),
+        [first, rest @ ..] => least_of(first, rest),
+    }
+}
+
+fn least_of(first: &Value, rest: &[Value]) -> Result<i64, ThingFault>
+    ensures { result ≡ exact (spec.picked_from int_min first.now rest.now) }
+{
+    match first {
+        Value::Int(n) => least_from(*n, rest),
+        _ => refused(RunFault::ValueOfAnotherType),
+    }
+}
+
+fn least_from(first: i64, rest: &[Value]) -> Result<i64, ThingFault>
+    ensures { result ≡ exact (spec.picked int_min first rest.now) }
+{
+    let mut best = first;
+    for arg in rest {
+        let Value::Int(n) = arg else {
+            return refused(RunFault::ValueOfAnotherType);
+        };
+        best = smaller(best, *n);
+    }
+    Ok(best)
+}
+
+/// The greatest of two or more ints.
+fn greatest(args: &[Value]) -> Result<i64, ThingFault>
+    ensures { result ≡ exact (spec.many_picked int_max args.now) }
+{
+    match args {
+        [] | [_] => refused(RunFault::WrongNumberOfArguments),
+        [first, rest @ ..] => greatest_of(first, rest),
+    }
+}
+
+fn greatest_of(first: &Value, rest: &[Value]) -> Result<i64, ThingFault>
+    ensures { result ≡ exact (spec.picked_from int_max first.now rest.now) }
+{
+    match first {
+        Value::Int(n) => greatest_from(*n, rest),
+        _ => refused(RunFault::ValueOfAnotherType),
+    }
+}
+
+fn greatest_from(first: i64, rest: &[Value]) -> Result<i64, ThingFault>
+    ensures { result ≡ exact (spec.picked int_max first rest.now) }
+{
+    let mut best = first;
+    for arg in rest {
+        let Value::Int(n) = arg else {
+            return refused(RunFault::ValueOfAnotherType);
+        };
+        best = larger(best, *n);
+    }
+    Ok(best)
+}
+
+/// Of n, low and high: low where n is below it, else high where n is above it, else n.
+fn clamped(ints: (i64, i64, i64)) -> i64
+    ensures { result ≡ spec.clamped ints }
+{
+    let (n, low, high) = ints;
+    if n < low {
+        low
+    } else if n > high {
+        high
+    } else {
+        n
+    }
+}
+
+/// The rest that has the sign of the divisor. `ZeroDivisorOrStep` for 0.
+fn posmod(x: i64, y: i64) -> Result<i64, ThingFault>
+    ensures { result ≡ exact (spec.posmod x y) }
+{
+    if y == 0 {
+        return refused(RunFault::ZeroDivisorOrStep);
+    }
+    let rest = x.wrapping_rem(y);
+    if (rest < 0 && y > 0) || (rest > 0 && y < 0) {
+        Ok(rest.wrapping_add(y))
+    } else {
+        Ok(rest)
+    }
+}
+
+/// A function of one value, or `is_same`. `WrongNumberOfArguments`, then `ValueOfAnotherType`.
+pub fn call_on_values<K: Look>(
+    builtin: Builtin,
+    args: &[Value],
+    look: &K,
+) -> Result<Fresh, ThingFault>
+    ensures { result ≡ exact (spec.values_call (K.things look.now) builtin args.now) }
+{
+    match (builtin, args) {
+        (Builtin::Len, [v]) => int(length_of(v, look)?),
+        (Builtin::Typeof, [v]) => int(type_number(v)),
+        (Builtin::Int, [v]) => int(as_int(v)?),
+        (Builtin::Bool, [v]) => boolean(as_bool(v)?),
+        (Builtin::IsSame, [a, b]) => boolean(is_same(a, b)),
+        _ => refused(RunFault::WrongNumberOfArguments),
+    }
+}
+
+fn length_of<K: Look>(v: &Value, look: &K) -> Result<i64, ThingFault>
+    ensures { result ≡ exact (spec.length_of (K.things look.now) v.now) }
+{
+    match v {
+        Value::Str(text) => Ok(i64::from(text.length())),
+        Value::Array(h) => match look.array(*h) {
+            Some(array) => Ok(i64::from(array.size())),
+            None => Err(never_comes()),
+        },
+        Value::Dict(h) => match look.dict(*h) {
+            Some(dict) => Ok(i64::from(dict.size())),
+            None => Err(never_comes()),
+        },
+        _ => refused(RunFault::ValueOfAnotherType),
+    }
+}
+
+/// The number of the kind of a value.
+fn type_number(v: &Value) -> i64
+    ensures { result ≡ spec.type_number v.now }
+{
+    match v {
+        Value::Nil => 0,
+        Value::Bool(_) => 1,
+        Value::Int(_) => 2,
+        Value::Str(_) => 4,
+        Value::Object(_) => 24,
+        Value::Callable(_) => 25,
+        Value::Signal(_, _) => 26,
+        Value::Dict(_) => 27,
+        Value::Array(_) => 28,
+    }
+}
+
+fn as_int(v: &Value) -> Result<i64, ThingFault>
+    ensures { result ≡ exact (spec.as_int v.now) }
+{
+    match v {
+        Value::Bool(b) => Ok(i64::from(*b)),
+        Value::Int(n) => Ok(*n),
+        Value::Str(text) => Ok(to_int(text)),
+        _ => refused(RunFault::ValueOfAnotherType),
+    }
+}
+
+fn as_bool(v: &Value) -> Result<bool, ThingFault>
+    ensures { result ≡ exact (spec.as_bool v.now) }
+{
+    match v {
+        Value::Bool(b) => Ok(*b),
+        Value::Int(n) => Ok(*n != 0),
+        _ => refused(RunFault::ValueOfAnotherType),
+    }
+}
