@@ -13,6 +13,7 @@ pub mod MarkMeets
 pub mod NumberMeets
 pub mod EscapeMeets
 pub mod StringMeets
+pub mod StringToken
 pub mod CursorLemmas
 pub mod FollowsLemmas
 pub mod FoundLemmas
