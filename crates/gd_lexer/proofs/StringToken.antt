@@ -28,7 +28,12 @@ use Rattle.gd_lexer.specs.Escape.{Reading, moved}
 use Rattle.gd_lexer.specs.Quoted.{Steps, Scans, quote_of, quote_here, opened, at_quote, behind_quote, mark_here, sees_three, three}
 use Rattle.gd_lexer.specs.Start.{opens_string, start_at, start_by, is_digit}
 use Rattle.gd_lexer.specs.Mark.{mark_at}
-use Rattle.gd_lexer.specs.Token.{IsToken, IsBrokenAt}
+use Rattle.gd_lexer.specs.Token.{IsToken, IsBrokenAt, IsInner}
+use Rattle.gd_lexis.specs.Chars.{place_behind}
+use Rattle.gd_lexis.specs.Faults.{Breaks}
+use Rattle.gd_lexer.specs.declared.stop.Fault.{Fault}
+use Rattle.gd_lexer.specs.Escape.{reading_of, seen_fault}
+use Rattle.std.specs.Prelude.{IfSome}
 use Rattle.gd_lexer.proofs.Heads.{begins_name, is_plain, head_is, HeadIs, closing_cons, opening_raw, opening_plain, keyword_IsName}
 use Rattle.gd_lexer.proofs.MarkMeets.{char_is, head_seen}
 use Rattle.gd_lexer.proofs.StartsLemmas.{not_marked}
@@ -538,3 +543,51 @@ string_token s r t e at none clean steps sound_end =
         joined a b c gs =
             sym (append_assoc (map Char a) (map Char b) (map Char c ++ gs)) ∙ ap (λ k. k ++ (map Char c ++ gs)) (sym (map-append Char a b)) ∙ sym (append_assoc (map Char (a ++ b)) (map Char c) gs) ∙ ap (λ k. k ++ gs) (sym (map-append Char (a ++ b) c))
     by_outcome here o x (wrong front place rule goes fault w) = let f : None ≡ Some (place.pos, rule) = sym sound_end ∙ fault in cc
+
+-- ---- a fault inside
+
+broken_inside : (q : Quote) (rule : Rule) (gs body rest front : List Glyph) → IsWhole (ends_of q) body rest gs → IsWrong q rule front body rest → (before : List Piece) → Breaks rule before gs (map Char (opening (ends_of q)) ++ front)
+broken_inside q broken.NotUtf8 gs body rest front w x before =
+    let o = map Char (opening (ends_of q)) in
+    let tail = map Char (closing (ends_of q)) ++ rest in
+    let shown : gs ≡ (o ++ front) ++ Bad x.0 ∷ (x.1.0 ++ tail) =
+    w.1 ∙ ap (λ k. o ++ (k ++ tail)) x.1.1 ∙ ap (λ k. o ++ k) (append_assoc front (Bad x.0 ∷ x.1.0) tail) ∙ sym (append_assoc o front (Bad x.0 ∷ (x.1.0 ++ tail))) in
+    (x.0, x.1.0 ++ tail, shown,
+    inr (inr (ends_of q, body, rest, front, w, refl, omega (arith, length-append o front, length-map (opening (ends_of q)) Char, ap length x.1.1, length-append front (Bad x.0 ∷ x.1.0)))))
+broken_inside q broken.BadEscape gs body rest front w x before = (ends_of q, body, rest, front, x.0, w, x.1.0, refl, x.1.1, x.1.2, x.1.3, x.1.4)
+broken_inside q _ gs body rest front w x before = absurd x
+
+pub string_inner : (s : Spot) (r t : Reading) (pos : Pos) (rule : Rule) → Some starts.Quoted ≡ start_at s.glyphs → r.at ≡ opened s → r.fault ≡ None → Steps (quote_of s) r true t → t.fault ≡ Some (pos, rule) → IsInner s pos rule
+string_inner s r t pos rule e at clean steps found =
+    let o = opened_here s e in
+    let x = read_true (quote_of s) o.mark steps refl in
+    by_outcome o x (x.what clean)
+  where
+    by_outcome : Opened s → (x : Read (quote_of s) r t) → Outcome (quote_of s) r t x.body → IsInner s pos rule
+    by_outcome o x (sound codes text whole chars fault body) = let f : None ≡ Some (pos, rule) = sym fault ∙ found in cc
+    by_outcome o x (wrong front place other goes fault w) =
+        let both : Some (place.pos, other) ≡ Some (pos, rule) = sym fault ∙ found in
+        let pair : ◌≡◌ {A = Pos × Rule} (place.pos, other) (pos, rule) = cc in
+        let same_pos : place.pos ≡ pos = ap (λ (p : Pos × Rule). p.0) pair in
+        let same_rule : other ≡ rule = ap (λ (p : Pos × Rule). p.1) pair in
+        let P : Rule → Type 0 = λ k. (before : List Piece) → Breaks k before s.glyphs (map Char (opening (ends_of (quote_of s))) ++ front) in
+        let Q : Spot → Type 0 = λ k. Goes k front place in
+        let over = then_goes s (opened s) place (map Char (opening (ends_of (quote_of s)))) front o.goes (subst Q at goes) in
+        record {
+          ahead = map Char (opening (ends_of (quote_of s))) ++ front;
+          broken = subst P same_rule (broken_inside (quote_of s) other s.glyphs x.body t.at.glyphs front (is_whole s r t o at x) w);
+          place = λ file before here. sym same_pos ∙ over.place file before here;
+        }
+
+seen_none : (o : Option Fault) → o ≡ None → seen_fault o ≡ None
+seen_none o e = ap seen_fault e
+
+-- the same, as the code shows it
+pub quoted_inner : (s : Spot) (r t : Reading) (o : Option Fault) → Some starts.Quoted ≡ start_at s.glyphs → r.at ≡ opened s → r.fault ≡ None → Steps (quote_of s) r true t → t.fault ≡ seen_fault o → IfSome o (λ f. IsInner s f.pos f.rule)
+quoted_inner s r t None e at clean steps found = tt
+quoted_inner s r t (Some f) e at clean steps found = string_inner s r t f.pos f.rule e at clean steps found
+
+pub quoted_token : (s : Spot) (r t : Reading) (o : Option Fault) (text : List ℕ) → Some starts.Quoted ≡ start_at s.glyphs → r.at ≡ opened s → r.chars ≡ [] → r.fault ≡ None → Steps (quote_of s) r true t → t.fault ≡ seen_fault o → text ≡ t.chars → o ≡ None
+    → IsToken (kinds.Quoted text) s.glyphs t.at.glyphs
+quoted_token s r t o text e at none clean steps found same empty =
+    subst (λ k. IsToken (kinds.Quoted k) s.glyphs t.at.glyphs) (sym same) (string_token s r t e at none clean steps (found ∙ seen_none o empty))
