@@ -337,6 +337,9 @@ impl<'a> Lexer<'a> {
         requires starts { Some start ≡ spec.start_at self.old.cursor.glyphs }
         requires line { 1 ≤ pos.line }
         requires column { 1 ≤ pos.column }
+        ensures token { IfOk result (λ r. r.1 ≡ None → IsToken r.0 self.old.cursor.glyphs self.new.cursor.glyphs) }
+        ensures inner { IfOk result (λ r. IfSome r.1 (λ f. IsInner self.old.cursor f.pos f.rule)) }
+        ensures fault { IfErr result (IsFaultOf pos self.old.cursor.glyphs) }
         ensures found { self.new.found ≡ self.old.found }
         ensures lines { self.new.lines ≡ self.old.lines }
         ensures kind { IfOk result (λ r. IsNotEnd r.0) }
@@ -358,7 +361,8 @@ impl<'a> Lexer<'a> {
         requires starts { Some starts.Number ≡ spec.start_at self.old.cursor.glyphs }
         requires line { 1 ≤ pos.line }
         requires column { 1 ≤ pos.column }
-        ensures token { IfOk result (λ r. (IsToken r.0 self.old.cursor.glyphs self.new.cursor.glyphs) × (r.1 ≡ None)) }
+        ensures token { IfOk result (λ r. r.1 ≡ None → IsToken r.0 self.old.cursor.glyphs self.new.cursor.glyphs) }
+        ensures inner { IfOk result (λ r. IfSome r.1 (λ f. IsInner self.old.cursor f.pos f.rule)) }
         ensures fault { IfErr result (IsFaultOf pos self.old.cursor.glyphs) }
         ensures found { self.new.found ≡ self.old.found }
         ensures lines { self.new.lines ≡ self.old.lines }
@@ -415,7 +419,8 @@ impl<'a> Lexer<'a> {
         requires starts { Some (starts.Name c) ≡ spec.start_at self.old.cursor.glyphs }
         requires line { 1 ≤ pos.line }
         requires column { 1 ≤ pos.column }
-        ensures token { IfOk result (λ r. (IsToken r.0 self.old.cursor.glyphs self.new.cursor.glyphs) × (r.1 ≡ None)) }
+        ensures token { IfOk result (λ r. r.1 ≡ None → IsToken r.0 self.old.cursor.glyphs self.new.cursor.glyphs) }
+        ensures inner { IfOk result (λ r. IfSome r.1 (λ f. IsInner self.old.cursor f.pos f.rule)) }
         ensures fault { IfErr result (IsFaultOf pos self.old.cursor.glyphs) }
         ensures found { self.new.found ≡ self.old.found }
         ensures lines { self.new.lines ≡ self.old.lines }
