@@ -14,6 +14,7 @@ pub mod NumberMeets
 pub mod EscapeMeets
 pub mod StringMeets
 pub mod StringToken
+pub mod BracketLemmas
 pub mod CursorLemmas
 pub mod FollowsLemmas
 pub mod FoundLemmas

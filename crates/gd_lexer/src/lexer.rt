@@ -21,8 +21,8 @@ use crate::stop::{Fault, Stop, fault_at};
 use crate::stopped::stop_at;
 use crate::word::{Word, word_of};
 use gd_lexis::Glyph;
-use gd_model::Rule;
-use gd_syntax::{Mark, Pos, Text, TokenKind};
+use gd_model::{Rule, impossible};
+use gd_syntax::{Mark, Pos, Text, TextFault, TokenKind};
 use no_memory::NoMemory;
 use std::alloc::Global;
 
@@ -469,6 +469,8 @@ impl<'a> Lexer<'a> {
         let chars = Vec::from_slice(self.alloc, self.body.chars.as_slice())?;
         match Text::of(chars) {
             Ok(text) => Ok(text),
+            // A file has fewer characters than a text may have.
+            Err(TextFault::TooLong) => Err(impossible().into()),
             Err(_) => Err(NoMemory),
         }
     }
