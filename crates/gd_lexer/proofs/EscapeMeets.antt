@@ -210,6 +210,7 @@ hex_not_mark q c h hex e = by_mark h.0
   where
     value : digit_value q.mark < 16
     value = let P : ℕ → Type 0 = λ n. digit_value n < 16 in subst P e hex
+
     by_mark : (q.mark ≡ 34) ⊎ (q.mark ≡ 39) → ⊥
     by_mark (inl f) = let P : ℕ → Type 0 = λ n. digit_value n < 16 in let v = subst P f value in omega arith
     by_mark (inr f) = let P : ℕ → Type 0 = λ n. digit_value n < 16 in let v = subst P f value in omega arith
@@ -246,13 +247,14 @@ pub hex_walks : (cs : List ℕ) → All IsHex cs → Walks (map Char cs)
 hex_walks cs a = (hex_forth cs a, hex_back cs a)
 
 pub then_walks : (v w : List Glyph) → Walks v → Walks w → Walks (v ++ w)
-then_walks v w f g =
-    ((λ q rest gs h i. let P : List Glyph → Type 0 = λ t. Inside q rest t in subst P (sym (append_assoc v w gs)) (f.0 q rest (w ++ gs) h (g.0 q rest gs h i))),
-    (λ q rest body gs h e b i.
+then_walks v w f g = (
+  (λ q rest gs h i. let P : List Glyph → Type 0 = λ t. Inside q rest t in subst P (sym (append_assoc v w gs)) (f.0 q rest (w ++ gs) h (g.0 q rest gs h i))),
+  (λ q rest body gs h e b i.
       let one = f.1 q rest body (w ++ gs) h (e ∙ append_assoc v w gs) b i in
       let tail : one.more ++ rest ≡ w ++ gs = append_cancel_left v (one.more ++ rest) (w ++ gs) (sym (append_assoc v one.more rest) ∙ ap (λ t. t ++ rest) (sym one.whole) ∙ e ∙ append_assoc v w gs) in
       let two = g.1 q rest one.more gs h tail b one.inside in
-      record { more = two.more; whole = one.whole ∙ ap (λ t. v ++ t) two.whole ∙ sym (append_assoc v w two.more); inside = two.inside }))
+      record { more = two.more; whole = one.whole ∙ ap (λ t. v ++ t) two.whole ∙ sym (append_assoc v w two.more); inside = two.inside }),
+)
 
 pub slash_not_mark : (q : Quote) → IsQuote q → 92 ≢ q.mark
 slash_not_mark q h = by_mark h.0
@@ -393,6 +395,7 @@ long_by s t hs (Some n) e h = by_scalar (scalar_of n) refl
   where
     rest : (advanced s).glyphs ≡ hs
     rest = rest_of s (Char 85) hs e
+
     by_scalar : (o : Option ℕ) → scalar_of n ≡ o → EscapeBy s o t
     by_scalar None f =
         no_escape_by 85 h.cs s t hs e h.each h.goes
@@ -422,9 +425,9 @@ module _ (s t : Spot) (hs : List Glyph) (n : ℕ) (e : s.glyphs ≡ Char 117 ∷
       no_escape_by 117 h.cs s t hs e h.each h.goes
       (no_u hs (no_scalar_here low high)
       (λ ds es hi lo w x small less rest shown.
-        let one = front_code ds (0xD800 + hi) (Char 92 ∷ Char 117 ∷ (map Char es ++ rest)) w shown in
-        let P : List Glyph → Type 0 = λ k. (sees 92 k 0 && sees 117 k 1) ≡ false in
-        let f = subst P one.1 unseen in cc))
+      let one = front_code ds (0xD800 + hi) (Char 92 ∷ Char 117 ∷ (map Char es ++ rest)) w shown in
+      let P : List Glyph → Type 0 = λ k. (sees 92 k 0 && sees 117 k 1) ≡ false in
+      let f = subst P one.1 unseen in cc))
 
   module _ (ks : List Glyph) (f : t.glyphs ≡ Char 92 ∷ Char 117 ∷ ks) where
     behind : (advanced (advanced t)).glyphs ≡ ks
@@ -453,9 +456,9 @@ module _ (s t : Spot) (hs : List Glyph) (n : ℕ) (e : s.glyphs ≡ Char 117 ∷
               subst P (sym e)
               (no_u hs (no_scalar_here low high)
               (λ cs es hi lo w x small less rest shown.
-                let one = front_code cs (0xD800 + hi) (Char 92 ∷ Char 117 ∷ (map Char es ++ rest)) w shown in
-                let tail : ks ≡ map Char es ++ rest = let both : Char 92 ∷ Char 117 ∷ ks ≡ Char 92 ∷ Char 117 ∷ (map Char es ++ rest) = sym f ∙ one.1 in cc in
-                none es lo x less (rest, behind ∙ tail)));
+              let one = front_code cs (0xD800 + hi) (Char 92 ∷ Char 117 ∷ (map Char es ++ rest)) w shown in
+              let tail : ks ≡ map Char es ++ rest = let both : Char 92 ∷ Char 117 ∷ ks ≡ Char 92 ∷ Char 117 ∷ (map Char es ++ rest) = sym f ∙ one.1 in cc in
+              none es lo x less (rest, behind ∙ tail)));
         }
 
     low_by : (u : Spot) (low : ℕ) → 0xD800 ≤ n → n < 0xDC00 → HexSome 4 low (advanced (advanced t)) u → EscapeBy s (low_of n low u).value (low_of n low u).at
@@ -463,6 +466,7 @@ module _ (s t : Spot) (hs : List Glyph) (n : ℕ) (e : s.glyphs ≡ Char 117 ∷
       where
         code : ℕ
         code = 0x10000 + (n - 0xD800) * 0x400 + (low - 0xDC00)
+
         outside : (low < 0xDC00) ⊎ (0xDFFF < low) → NoEscape s u
         outside out =
             no_pair u k.cs least most k.each k.goes
@@ -471,6 +475,7 @@ module _ (s t : Spot) (hs : List Glyph) (n : ℕ) (e : s.glyphs ≡ Char 117 ∷
             by_side : {lo : ℕ} → (low < 0xDC00) ⊎ (0xDFFF < low) → low ≡ 0xDC00 + lo → lo < 0x400 → ⊥
             by_side (inl p) q r = omega arith
             by_side (inr p) q r = omega arith
+
         made : 0xDC00 ≤ low → low ≤ 0xDFFF → EscapeBy s (scalar_of (0x10000 + (n - 0xD800) * 0x400 + (low - 0xDC00))) u
         made p q = by_scalar (scalar_of (0x10000 + (n - 0xD800) * 0x400 + (low - 0xDC00))) refl
           where
@@ -479,6 +484,7 @@ module _ (s t : Spot) (hs : List Glyph) (n : ℕ) (e : s.glyphs ≡ Char 117 ∷
               where
                 scalar_between : (m : ℕ) → 0xE000 ≤ m → m < 0x110000 → IsScalar m
                 scalar_between m x y = grind (arith, nat_tests)
+
             by_scalar : (o : Option ℕ) → scalar_of (0x10000 + (n - 0xD800) * 0x400 + (low - 0xDC00)) ≡ o → EscapeBy s o u
             by_scalar None f = absurd (scalar_none (0x10000 + (n - 0xD800) * 0x400 + (low - 0xDC00)) f is_one)
             by_scalar (Some d) f =
@@ -491,6 +497,7 @@ module _ (s t : Spot) (hs : List Glyph) (n : ℕ) (e : s.glyphs ≡ Char 117 ∷
                   escape = inr (inr (inr (inr (h.cs, k.cs, n - 0xD800, low - 0xDC00, refl, (h.size, h.each, sym high_part ∙ h.code), (k.size, k.each, sym low_part ∙ k.code), omega arith, omega arith, ap (λ m. m ∷ []) is.1))));
                   walks = pair_walks k.cs k.each;
                 }
+
         by_range : (x y : Bool) → nat_lt low 0xDC00 ≡ x → nat_lt 0xDFFF low ≡ y → EscapeBy s (cond (x || y) (none_at u) (record { value = scalar_of (0x10000 + (n - 0xD800) * 0x400 + (low - 0xDC00)); at = u })).value (cond (x || y) (none_at u) (record { value = scalar_of (0x10000 + (n - 0xD800) * 0x400 + (low - 0xDC00)); at = u })).at
         by_range true y p q = outside (inl (ltb-true low 0xDC00 p))
         by_range false true p q = outside (inr (ltb-true 0xDFFF low q))
@@ -566,6 +573,7 @@ character_is c s hs e plain_end = by_letter (c == 117) (c == 85) refl refl
       where
         no_lf : (sees 10 (Char c ∷ hs) 0 || (sees 13 (Char c ∷ hs) 0 && sees 10 (Char c ∷ hs) 1)) ≡ false → c ≡ 10 → ⊥
         no_lf g is = let t : (c == 10) ≡ true = eq-eqb c 10 is in cc
+
         no_cr : (sees 10 (Char c ∷ hs) 0 || (sees 13 (Char c ∷ hs) 0 && sees 10 (Char c ∷ hs) 1)) ≡ false → c ≡ 13 → slice_get hs 0 ≡ Some (Char 10) → ⊥
         no_cr g is next =
             let t : (c == 13) ≡ true = eq-eqb c 13 is in
@@ -577,6 +585,7 @@ character_is c s hs e plain_end = by_letter (c == 117) (c == 85) refl refl
             both_there false true true a b d = cc
             both_there false true false a b d = cc
             both_there false false z a b d = cc
+
     by_letter : (x y : Bool) → (c == 117) ≡ x → (c == 85) ≡ y
         → EscapeBy s (cond x (and_then (hex_four (advanced s)) short_of) (cond y (and_then (hex_six (advanced s)) (λ n t. record { value = scalar_of n; at = t })) (record { value = simple c; at = advanced s }))).value
         (cond x (and_then (hex_four (advanced s)) short_of) (cond y (and_then (hex_six (advanced s)) (λ n t. record { value = scalar_of n; at = t })) (record { value = simple c; at = advanced s }))).at

@@ -259,6 +259,7 @@ string_head text t c gs b h = by_raw h.0.is_raw refl
   where
     shut : (more : List ℕ) × (closing h.0 ≡ h.0.mark ∷ more)
     shut = closing_cons h.0 h.2
+
     by_raw : (raw : Bool) → h.0.is_raw ≡ raw → opens_string c (Char c ∷ gs) ≡ true
     by_raw true e =
         let whole : text ≡ 114 ∷ h.0.mark ∷ (shut.0 ++ (h.1 ++ closing h.0)) = h.3 ∙ append_assoc (opening h.0) h.1 (closing h.0) ∙ ap (λ o. o ++ (h.1 ++ closing h.0)) (opening_raw h.0 e ∙ ap (λ o. 114 ∷ o) shut.1) in

@@ -82,7 +82,7 @@ fit_arithmetic c hs any =
     (λ _. let P : ℕ → Type 0 = λ n. Fits (Char n ∷ hs) (with_equal (Char n ∷ hs) marks.Minus marks.MinusEqual) in at P c 45 h (fit_equal 45 hs marks.Minus marks.MinusEqual refl refl)))
     (λ n2. fit (Char c ∷ hs) (c == 47) _ _ (λ h. let P : ℕ → Type 0 = λ n. Fits (Char n ∷ hs) (with_equal (Char n ∷ hs) marks.Slash marks.SlashEqual) in at P c 47 h (fit_equal 47 hs marks.Slash marks.SlashEqual refl refl))
     (λ n3. let h : (c == 37) ≡ true = last_of (c == 43) (c == 45) (c == 47) (c == 37) any n1 n2 n3 in
-      let P : ℕ → Type 0 = λ n. Fits (Char n ∷ hs) (with_equal (Char n ∷ hs) marks.Percent marks.PercentEqual) in at P c 37 h (fit_equal 37 hs marks.Percent marks.PercentEqual refl refl))))
+    let P : ℕ → Type 0 = λ n. Fits (Char n ∷ hs) (with_equal (Char n ∷ hs) marks.Percent marks.PercentEqual) in at P c 37 h (fit_equal 37 hs marks.Percent marks.PercentEqual refl refl))))
   where
     last_of : (x y z w : Bool) → (x || y || z || w) ≡ true → x ≡ false → y ≡ false → z ≡ false → w ≡ true
     last_of true y z w e f g h = cc
@@ -107,7 +107,7 @@ fit_bits c hs any =
     (λ seen. let P : ℕ → Type 0 = λ n. sees 124 (Char n ∷ hs) 1 ≡ true → Fits (Char n ∷ hs) (marks.OrOr, 2) in at P c 124 h (fit_two 124 124 hs marks.OrOr refl) seen)
     (λ _. let P : ℕ → Type 0 = λ n. Fits (Char n ∷ hs) (with_equal (Char n ∷ hs) marks.Bar marks.BarEqual) in at P c 124 h (fit_equal 124 hs marks.Bar marks.BarEqual refl refl)))
     (λ n2. let h : (c == 94) ≡ true = last_of (c == 38) (c == 124) (c == 94) any n1 n2 in
-      let P : ℕ → Type 0 = λ n. Fits (Char n ∷ hs) (with_equal (Char n ∷ hs) marks.Caret marks.CaretEqual) in at P c 94 h (fit_equal 94 hs marks.Caret marks.CaretEqual refl refl)))
+    let P : ℕ → Type 0 = λ n. Fits (Char n ∷ hs) (with_equal (Char n ∷ hs) marks.Caret marks.CaretEqual) in at P c 94 h (fit_equal 94 hs marks.Caret marks.CaretEqual refl refl)))
   where
     last_of : (x y z : Bool) → (x || y || z) ≡ true → x ≡ false → y ≡ false → z ≡ true
     last_of true y z e f g = cc
@@ -161,7 +161,7 @@ mark_fits c hs =
     (λ _. fit_if (Char c ∷ hs) (c == 33) _ _ (λ h. let P : ℕ → Type 0 = λ n. Fits (Char n ∷ hs) (with_equal (Char n ∷ hs) marks.Bang marks.BangEqual) in at P c 33 h (fit_equal 33 hs marks.Bang marks.BangEqual refl refl))
     (λ _. fit_if (Char c ∷ hs) (c == 46 && sees 46 (Char c ∷ hs) 1) _ _
     (λ both. let p = and_parts (c == 46) (sees 46 (Char c ∷ hs) 1) both in
-      let P : ℕ → Type 0 = λ n. sees 46 (Char n ∷ hs) 1 ≡ true → Fits (Char n ∷ hs) (marks.DotDot, 2) in at P c 46 p.0 (fit_two 46 46 hs marks.DotDot refl) p.1)
+    let P : ℕ → Type 0 = λ n. sees 46 (Char n ∷ hs) 1 ≡ true → Fits (Char n ∷ hs) (marks.DotDot, 2) in at P c 46 p.0 (fit_two 46 46 hs marks.DotDot refl) p.1)
     (λ _. fit_single c hs)))))))
 
 -- ---- no longer mark stands there

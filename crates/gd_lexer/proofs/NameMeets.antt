@@ -68,6 +68,7 @@ name_IsLongest c cs rest h opens stops longer kind more b w = by_kind kind w (he
   where
     P : List ℕ → Type 0
     P t = BeginsWith t (map Char (c ∷ cs) ++ rest)
+
     by_kind : (k : TokenKind) → Writes k longer → Rattle.gd_lexer.proofs.Heads.HeadIs k c (Char c ∷ (map Char cs ++ rest)) → ⊥
     by_kind (kinds.Word n) w head = no_longer_name (c ∷ cs) longer rest (omega arith) stops more b w.0
     by_kind (kinds.Keyword k) w head = let Q : List ℕ → Type 0 = λ t. IsName t in no_longer_name (c ∷ cs) longer rest (omega arith) stops more b (subst Q (sym w) (keyword_IsName k))

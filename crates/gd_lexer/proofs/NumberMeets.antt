@@ -237,6 +237,7 @@ value_read r n (g ∷ gs) h small = by_part (part_at r (g ∷ gs)) (λ d t. valu
         let more = grows r (n * r + d) (digit_list r gs) h in
         let over : 2 ^ 63 ≤ fold (λ m e. m * r + e) (n * r + d) (digit_list r gs) = omega arith in
         value_none r gs ∙ sym (rw (le-ltb (fold (λ m e. m * r + e) (n * r + d) (digit_list r gs)) (2 ^ 63) over) refl)
+
     by_part : (o : Option Part) → ((d : ℕ) → n * r + d < 2 ^ 63 → value_behind (Some (n * r + d)) r gs ≡ limited (fold (λ m e. m * r + e) (n * r + d) (digit_list r gs)))
         → value_behind (Some n) r gs ≡ limited (fold (λ m e. m * r + e) n (digit_list r gs))
         → (elim o as (λ _. Option ℕ) [ None ↦ Some n | Some p ↦ value_behind (extended (Some n) r p) r gs ]) ≡ limited (fold (λ m e. m * r + e) n (elim o as (λ _. List ℕ) [ None ↦ [] | Some p ↦ value_of p (digit_list r gs) ]))
@@ -458,6 +459,7 @@ stops_here (Char c ∷ rest) e k = by_test (is_xid_continue c) refl e
   where
     shown : c ≡ k.0
     shown = let f = k.2.1 in cc
+
     by_test : (b : Bool) → is_xid_continue c ≡ b → is_there (cond b (Some c) None) ≡ false → ⊥
     by_test true t f = cc
     by_test false t f = let goes : is_xid_continue c ≡ true = rw shown k.1 in cc
@@ -515,6 +517,7 @@ float_behind rest e = by_tests (sees 46 rest 0) (sees 101 rest 0) (sees 69 rest 
         let shown = front_seen rest c seen in
         let P : List Glyph → Type 0 = λ t. has_exponent t ≡ true in
         subst FloatBehind (sym shown) (exponent c (drop 1 rest) mark (subst P shown h))
+
     by_tests : (a b c d : Bool) → sees 46 rest 0 ≡ a → sees 101 rest 0 ≡ b → sees 69 rest 0 ≡ c → has_exponent rest ≡ d → (a || ((b || c) && d)) ≡ true → FloatBehind rest
     by_tests true b c d p q r s f = inl (drop 1 rest, front_seen rest 46 p)
     by_tests false true c true p q r s f = at 101 (inl refl) q s
@@ -561,10 +564,16 @@ by_value b text v gs rest false (Some n) r e f = by_size (nat_lt v (2 ^ 63)) ref
     by_end : (g : Bool) → v < 2 ^ 63 → n ≡ v → is_there (next_in_name (slice_get rest 0)) ≡ g → MeetsNumber (cond g (Err broken.BadNumber) (Ok (pos n))) gs rest
     by_end true small same t = λ before. (refl, (text, v, rest, is_number b text v gs rest r, r.whole, goes_here rest t))
     by_end false small same t =
-        let P : List Glyph → Type 0 = λ t. IsLongest text t in
-        (text, r.whole,
-        ((v, writes_in b text v r.writes, ap pos same), subst P r.whole r.longest,
-        ((λ w h. let same : w ≡ v = one_number b text v w r.writes h in omega arith), stops_here rest t, no_dot b text rest v r.writes e)))
+        let P : List Glyph → Type 0 = λ t. IsLongest text t in (
+          text,
+          r.whole,
+          (
+            (v, writes_in b text v r.writes, ap pos same),
+            subst P r.whole r.longest,
+            ((λ w h. let same : w ≡ v = one_number b text v w r.writes h in omega arith), stops_here rest t, no_dot b text rest v r.writes e),
+          ),
+        )
+
     by_size : (t : Bool) → nat_lt v (2 ^ 63) ≡ t → Some n ≡ cond t (Some v) None → MeetsNumber (checked false (Some n) rest) gs rest
     by_size true t f = by_end (is_there (next_in_name (slice_get rest 0))) (ltb-true v (2 ^ 63) t) (cc) refl
     by_size false t f = cc

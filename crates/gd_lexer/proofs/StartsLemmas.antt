@@ -54,10 +54,10 @@ name_by d c gs e =
     (λ _. pick _ (opens_string d (Char d ∷ gs)) _ _ _ (λ _ f. cc)
     (λ plain. pick _ (is_xid_start d || d == 95) _ _ _
     (λ name f.
-      let same : d ≡ c = cc in
-      let P : ℕ → Type 0 = λ t. (is_xid_start t || t == 95) ≡ true in
-      let Q : ℕ → Type 0 = λ t. opens_string t (Char d ∷ gs) ≡ false in
-      record { head = rw same refl; name = subst P same name; plain = subst Q same plain })
+    let same : d ≡ c = cc in
+    let P : ℕ → Type 0 = λ t. (is_xid_start t || t == 95) ≡ true in
+    let Q : ℕ → Type 0 = λ t. opens_string t (Char d ∷ gs) ≡ false in
+    record { head = rw same refl; name = subst P same name; plain = subst Q same plain })
     (λ _. pick _ (d == 46 && is_digit (slice_get (Char d ∷ gs) 1)) _ _ _ (λ _ f. cc) (λ _ f. let m = not_marked (mark_at d (Char d ∷ gs)) (starts.Name c) f in cc)))) e
 
 pub name_here : (gs : List Glyph) (c : ℕ) → Some (starts.Name c) ≡ start_at gs → NameHere c gs
@@ -115,10 +115,10 @@ float_by c gs e =
     (λ _. pick _ (is_xid_start c || c == 95) _ _ _ (λ _ f. cc)
     (λ _. pick _ (c == 46 && is_digit (slice_get (Char c ∷ gs) 1)) _ _ _
     (λ both _.
-      let p = and_parts (c == 46) (is_digit (slice_get gs 0)) both in
-      let d = digit_next gs p.1 in
-      let first : c ≡ 46 = eqb-true c 46 p.0 in
-      record { d = d.0; whole = ap (λ n. Char n ∷ gs) first ∙ ap (λ t. Char 46 ∷ t) d.1.0; digit = d.1.1 })
+    let p = and_parts (c == 46) (is_digit (slice_get gs 0)) both in
+    let d = digit_next gs p.1 in
+    let first : c ≡ 46 = eqb-true c 46 p.0 in
+    record { d = d.0; whole = ap (λ n. Char n ∷ gs) first ∙ ap (λ t. Char 46 ∷ t) d.1.0; digit = d.1.1 })
     (λ _ f. let m = not_marked (mark_at c (Char c ∷ gs)) starts.Float f in cc)))) e
 
 pub float_here : (gs : List Glyph) → Some starts.Float ≡ start_at gs → FloatHere gs

@@ -209,6 +209,7 @@ plain_done q r (Char c) hs h e slash going = by_test (c == 13 && sees 10 r.at.gl
       where
         unequal : (m n : ℕ) → m ≡ n → m ≡ 13 → n ≡ 92 → ⊥
         unequal m n x a b = omega arith
+
         unequal2 : (m n : ℕ) → m ≡ n → m ≡ 10 → n ≡ 92 → ⊥
         unequal2 m n x a b = omega arith
     by_test false f =
@@ -255,6 +256,7 @@ kept_done q r (Char c ∷ ks) h raw e =
   where
     tail : (advanced r.at).glyphs ≡ Char c ∷ ks
     tail = slash_goes r (Char c ∷ ks) e
+
     by_test : (b : Bool) → (c == 13 && sees 10 (advanced r.at).glyphs 1) ≡ b
         → Done q r (cond b (pushed 10 (advanced (advanced (advanced r.at))) (pushed 92 (advanced r.at) r)) (pushed c (advanced (advanced r.at)) (pushed 92 (advanced r.at) r)))
     by_test true f =
@@ -312,6 +314,7 @@ bad_begins_none b ks e x is begins = by_escape is
   where
     second : (a : ℕ) (tail : List ℕ) → e ≡ 92 ∷ a ∷ tail → ⊥
     second a tail f = let shown : Char 92 ∷ Bad b ∷ ks ≡ Char 92 ∷ Char a ∷ (map Char tail ++ begins.0) = begins.1 ∙ ap (λ t. map Char t ++ begins.0) f in let g : Bad b ≡ Char a = cc in cc
+
     by_escape : IsEscape e x → ⊥
     by_escape (inl h) = second h.0 [] h.2
     by_escape (inr (inl h)) = by_end h.0
@@ -329,14 +332,17 @@ escaped_done q r hs h raw e = by_end (is_line_end s) refl
   where
     s : Spot
     s = advanced r.at
+
     tail : (advanced r.at).glyphs ≡ hs
     tail = slash_goes r hs e
+
     feed : sees 10 (advanced r.at).glyphs 0 ≡ true → Done q r (moved (advanced (advanced r.at)) r)
     feed f =
         let next = head_seen (advanced r.at).glyphs (Char 10) (char_is (slice_get (advanced r.at).glyphs 0) 10 f) in
         fine
         (record { over = Char 92 ∷ Char 10 ∷ []; goes = behind_slash r.at (advanced (advanced r.at)) hs (Char 10 ∷ []) e (goes_one (advanced r.at) (Char 10) _ next); walks = λ rest gs k i. taken (Char 10) gs i; back = taken_one q h (Char 10) _ r.at (e ∙ ap (λ t. Char 92 ∷ t) (sym tail ∙ next)); shorter = omega arith })
         (escape_fine q r (moved (advanced (advanced r.at)) r) (92 ∷ 10 ∷ []) [] (Char 92 ∷ Char 10 ∷ []) raw (inr (inl (inl refl, refl))) refl (sym (append-nil r.chars)) refl)
+
     crlf : sees 13 (advanced r.at).glyphs 0 ≡ true → sees 10 (advanced r.at).glyphs 1 ≡ true → Done q r (moved (advanced (advanced (advanced r.at))) r)
     crlf f g =
         let first = head_seen (advanced r.at).glyphs (Char 13) (char_is (slice_get (advanced r.at).glyphs 0) 13 f) in
@@ -346,10 +352,13 @@ escaped_done q r hs h raw e = by_end (is_line_end s) refl
         fine
         (record { over = Char 92 ∷ Char 13 ∷ Char 10 ∷ []; goes = behind_slash r.at (advanced (advanced (advanced r.at))) hs (Char 13 ∷ Char 10 ∷ []) e (two_goes (advanced r.at) (Char 13) (Char 10) _ whole); walks = λ rest gs k i. taken (Char 13) (Char 10 ∷ gs) (feed_walks q h rest gs i); back = taken_feed q h _ r.at (e ∙ ap (λ t. Char 92 ∷ t) (sym tail ∙ whole)); shorter = omega arith })
         (escape_fine q r (moved (advanced (advanced (advanced r.at))) r) (92 ∷ 13 ∷ 10 ∷ []) [] (Char 92 ∷ Char 13 ∷ Char 10 ∷ []) raw (inr (inl (inr refl, refl))) refl (sym (append-nil r.chars)) refl)
+
     walk_with : (over : List Glyph) → ((p : strings.Quote) (rest gs : List Glyph) → IsQuote p → Inside p rest gs → Inside p rest (over ++ gs)) → (t : Spot) → (rest gs : List Glyph) → gs ++ rest ≡ t.glyphs → Inside (ends_of q) rest gs → Inside (ends_of q) rest (over ++ gs)
     walk_with over w t rest gs k i = w (ends_of q) rest gs (is_quote_of q h) i
+
     back_with : (over : List Glyph) → Walks over → (t : Spot) → Goes r.at over t → (rest body : List Glyph) → body ++ rest ≡ r.at.glyphs → BeginsWith (closing (ends_of q)) rest → Inside (ends_of q) rest body → Left (ends_of q) rest body over
     back_with over w t g rest body k x i = w.1 (ends_of q) rest body t.glyphs (is_quote_of q h) (k ∙ g.glyphs) x i
+
     by_found : (c : ℕ) (ks : List Glyph) (o : Option ℕ) (t : Spot) → hs ≡ Char c ∷ ks → EscapeBy (advanced r.at) o t → Done q r (escaped_by r.at.pos o t r)
     by_found c ks (Some d) t f x =
         fine
@@ -360,6 +369,7 @@ escaped_done q r hs h raw e = by_end (is_line_end s) refl
         wrong_escape
         (record { over = Char 92 ∷ x.over; goes = behind_slash r.at t hs x.over e x.goes; walks = walk_with (Char 92 ∷ x.over) x.walks.0 t; back = back_with (Char 92 ∷ x.over) x.walks t (behind_slash r.at t hs x.over e x.goes); shorter = omega arith })
         (record { raw = raw; back = hs; whole = e; none = subst P tail x.none; fault = refl })
+
     by_glyph : (o : Option Glyph) → slice_get (advanced r.at).glyphs 0 ≡ o → is_line_end (advanced r.at) ≡ false → Done q r (escaped_glyph r.at.pos o (advanced r.at) r)
     by_glyph None f g = at_end (ap length e ∙ ap (λ t. suc (length t)) (sym tail ∙ nothing_left (advanced r.at).glyphs f)) (nothing_left (advanced r.at).glyphs f) refl
       where
@@ -375,12 +385,14 @@ escaped_done q r hs h raw e = by_end (is_line_end s) refl
     by_glyph (Some (Char c)) f g =
         let next = head_seen (advanced r.at).glyphs (Char c) f in
         by_found c (drop 1 (advanced r.at).glyphs) (character c (advanced r.at)).value (character c (advanced r.at)).at (sym tail ∙ next) (character_is c (advanced r.at) (drop 1 (advanced r.at).glyphs) next g)
+
     ended : (a b c : Bool) → sees 10 (advanced r.at).glyphs 0 ≡ a → sees 13 (advanced r.at).glyphs 0 ≡ b → sees 10 (advanced r.at).glyphs 1 ≡ c → (a || (b && c)) ≡ true
         → Done q r (moved (cond a (advanced (advanced r.at)) (cond (b && c) (advanced (advanced (advanced r.at))) (advanced r.at))) r)
     ended true b c x y z w = feed x
     ended false true true x y z w = crlf y z
     ended false true false x y z w = cc
     ended false false c x y z w = cc
+
     by_end : (b : Bool) → is_line_end (advanced r.at) ≡ b → Done q r (cond b (moved (after_line_end (advanced r.at)) r) (escaped_glyph r.at.pos (slice_get (advanced r.at).glyphs 0) (advanced r.at) r))
     by_end true f = ended (sees 10 (advanced r.at).glyphs 0) (sees 13 (advanced r.at).glyphs 0) (sees 10 (advanced r.at).glyphs 1) refl refl refl f
     by_end false f = by_glyph (slice_get (advanced r.at).glyphs 0) refl f
@@ -507,10 +519,16 @@ module _ (q : Quote) (mark : IsMark q) (r u t : Reading) (ih : Read q u t) where
 
   shifted : (s : Stepped q r u) → Fine q r u s.over → (rule : Rule) (front : List Glyph) → IsWrong q rule front ih.body t.at.glyphs → IsWrong q rule (s.over ++ front) (s.over ++ ih.body) t.at.glyphs
   shifted s f NotUtf8 front w = (w.0, (w.1.0, ap (λ k. s.over ++ k) w.1.1 ∙ sym (append_assoc s.over front (Bad w.0 ∷ w.1.0))))
-  shifted s f BadEscape front w =
-      (w.0, (w.1.0,
+  shifted s f BadEscape front w = (
+    w.0,
+    (
+      w.1.0,
       append_assoc s.over ih.body (map Char (closing (ends_of q)) ++ t.at.glyphs) ∙ ap (λ k. s.over ++ k) w.1.1 ∙ sym (append_assoc s.over front (Char 92 ∷ w.0)),
-      f.parts w.1.0 (Char 92 ∷ w.0) front w.1.2, omega (arith, length-append s.over front, length-append s.over ih.body, w.1.3), w.1.4))
+      f.parts w.1.0 (Char 92 ∷ w.0) front w.1.2,
+      omega (arith, length-append s.over front, length-append s.over ih.body, w.1.3),
+      w.1.4,
+    ),
+  )
   shifted s f _ front w = absurd w
 
   after_fine : (s : Stepped q r u) → Fine q r u s.over → Outcome q u t ih.body → Outcome q r t (s.over ++ ih.body)
@@ -547,9 +565,16 @@ module _ (q : Quote) (mark : IsMark q) (r u t : Reading) (ih : Read q u t) where
     inside = longer_inside s;
     keeps = λ g e. ih.keeps g (w.fault ∙ kept_fault r.fault g (r.at.pos, BadEscape) e);
     what = λ e.
-        wrong [] r.at BadEscape (stay r.at) (ih.keeps (r.at.pos, BadEscape) (w.fault ∙ new_fault r.fault (r.at.pos, BadEscape) e))
-        (w.back, (w.raw, append_assoc s.over ih.body (map Char (closing (ends_of q)) ++ t.at.glyphs) ∙ ap (λ k. s.over ++ k) (behind s) ∙ sym s.goes.glyphs ∙ w.whole, no_more,
-        omega (arith, length-append s.over ih.body, s.shorter), w.none));
+        wrong [] r.at BadEscape (stay r.at) (ih.keeps (r.at.pos, BadEscape) (w.fault ∙ new_fault r.fault (r.at.pos, BadEscape) e)) (
+          w.back,
+          (
+            w.raw,
+            append_assoc s.over ih.body (map Char (closing (ends_of q)) ++ t.at.glyphs) ∙ ap (λ k. s.over ++ k) (behind s) ∙ sym s.goes.glyphs ∙ w.whole,
+            no_more,
+            omega (arith, length-append s.over ih.body, s.shorter),
+            w.none,
+          ),
+        );
   }
 
 pub read_true : (q : Quote) → IsMark q → {r t : Reading} {b : Bool} → Steps q r b t → b ≡ true → Read q r t
@@ -587,6 +612,7 @@ read_false q mark (step r t b g head going steps) false_is body rest whole i =
   where
     u : Reading
     u = step_by (is_backslash g) q.is_raw g r
+
     goes_on : (s : Stepped q r (step_by (is_backslash g) q.is_raw g r))
         → ((more tail : List Glyph) → (step_by (is_backslash g) q.is_raw g r).at.glyphs ≡ more ++ (map Char (closing (ends_of q)) ++ tail) → Inside (ends_of q) (map Char (closing (ends_of q)) ++ tail) more → ⊥) → ⊥
     goes_on s ih =
@@ -594,6 +620,7 @@ read_false q mark (step r t b g head going steps) false_is body rest whole i =
         let both : s.over ++ (step_by (is_backslash g) q.is_raw g r).at.glyphs ≡ s.over ++ (left.more ++ (map Char (closing (ends_of q)) ++ rest)) =
         sym s.goes.glyphs ∙ whole ∙ ap (λ k. k ++ (map Char (closing (ends_of q)) ++ rest)) left.whole ∙ append_assoc s.over left.more (map Char (closing (ends_of q)) ++ rest) in
         ih left.more rest (append_cancel_left s.over _ _ both) left.inside
+
     by_done : Done q r (step_by (is_backslash g) q.is_raw g r)
         → ((more tail : List Glyph) → (step_by (is_backslash g) q.is_raw g r).at.glyphs ≡ more ++ (map Char (closing (ends_of q)) ++ tail) → Inside (ends_of q) (map Char (closing (ends_of q)) ++ tail) more → ⊥) → ⊥
     by_done (at_end alone none fault) ih =

@@ -77,6 +77,7 @@ feed_forth q rest gs h i = plain (Char 10) gs (char_not 10 92 (λ e. unequal 10 
   where
     unequal : (m n : ℕ) → m ≡ n → m ≡ 10 → n ≡ 92 → ⊥
     unequal m n p a b = omega arith
+
     differs : (q.mark ≡ 34) ⊎ (q.mark ≡ 39) → 10 ≢ q.mark
     differs (inl f) e = omega arith
     differs (inr f) e = omega arith
@@ -86,6 +87,7 @@ cr_forth q rest gs h i = plain (Char 13) gs (char_not 13 92 (λ e. unequal 13 92
   where
     unequal : (m n : ℕ) → m ≡ n → m ≡ 13 → n ≡ 92 → ⊥
     unequal m n p a b = omega arith
+
     differs : (q.mark ≡ 34) ⊎ (q.mark ≡ 39) → 13 ≢ q.mark
     differs (inl f) e = omega arith
     differs (inr f) e = omega arith
@@ -136,6 +138,7 @@ quote_goes raw s e = by_three (sees_three (mark_here s) s) refl
   where
     seen : sees (mark_here s) s.glyphs 0 ≡ true
     seen = let P : List Glyph → Type 0 = λ k. sees (mark_here s) k 0 ≡ true in subst P (sym e) (eq-eqb (mark_here s) (mark_here s) refl)
+
     by_three : (b : Bool) → sees_three (mark_here s) s ≡ b → Goes s (map Char (replicate (count_of b) (mark_here s))) (cond b (three s) (advanced s))
     by_three true f = three_goes s (mark_here s) (three_marks (mark_here s) s.glyphs seen f)
     by_three false f = goes_one s (Char (mark_here s)) (drop 1 s.glyphs) e
@@ -159,14 +162,17 @@ opened_by raw c s e whole h = by_raw (sees 114 s.glyphs 0) refl
   where
     known : sees 114 s.glyphs 0 ≡ (c == 114)
     known = ap (λ k. is_char (slice_get k 0) 114) whole
+
     seen_from : (a b : Bool) → (c == 34) ≡ a → (c == 39) ≡ b → (c == 114) ≡ false → ((c == 34 || c == 39 || (c == 114 && (sees 34 s.glyphs 1 || sees 39 s.glyphs 1))) ≡ true) → (sees 34 s.glyphs 0 ≡ true) ⊎ (sees 39 s.glyphs 0 ≡ true)
     seen_from true b x y z f = inl (ap (λ k. is_char (slice_get k 0) 34) whole ∙ x)
     seen_from false true x y z f = inr (ap (λ k. is_char (slice_get k 0) 39) whole ∙ y)
     seen_from false false x y z f = cc
+
     raw_seen : (a b : Bool) → sees 34 s.glyphs 1 ≡ a → sees 39 s.glyphs 1 ≡ b → c ≡ 114 → ((c == 34 || c == 39 || (c == 114 && (sees 34 s.glyphs 1 || sees 39 s.glyphs 1))) ≡ true) → (sees 34 (advanced s).glyphs 0 ≡ true) ⊎ (sees 39 (advanced s).glyphs 0 ≡ true)
     raw_seen true b x y z f = inl (ap (λ k. is_char (slice_get k 0) 34) (rest_of s (Char c) (drop 1 s.glyphs) whole) ∙ sym (ap (λ k. is_char (slice_get k 1) 34) whole) ∙ x)
     raw_seen false true x y z f = inr (ap (λ k. is_char (slice_get k 0) 39) (rest_of s (Char c) (drop 1 s.glyphs) whole) ∙ sym (ap (λ k. is_char (slice_get k 1) 39) whole) ∙ y)
     raw_seen false false x y z f = let P : ℕ → Type 0 = λ n. (n == 34 || n == 39 || (n == 114 && (sees 34 s.glyphs 1 || sees 39 s.glyphs 1))) ≡ true in let g = subst P z f in cc
+
     by_raw : (b : Bool) → sees 114 s.glyphs 0 ≡ b → Opened s
     by_raw true f =
         let letter : c ≡ 114 = eqb-true c 114 (sym known ∙ f) in
@@ -182,9 +188,11 @@ opened_by raw c s e whole h = by_raw (sees 114 s.glyphs 0) refl
           mark = subst IsMark (sym same) seen.0;
           goes = subst (λ t. Goes s (map Char (opening (ends_of (quote_of s)))) t) (sym at) (subst (λ p. Goes s (map Char (opening (ends_of p))) (behind_quote (advanced s))) (sym same) whole_goes);
           opens =
-              subst (λ p. Opens (ends_of p) s.glyphs) (sym same)
-              (is_quote_of q seen.0, ((behind_quote (advanced s)).glyphs, whole_goes.glyphs),
-              (λ one b. three_denied q.mark (sees_three q.mark (advanced s)) (advanced s).glyphs one refl (b.0, (let both : Char 114 ∷ (advanced s).glyphs ≡ Char 114 ∷ (Char q.mark ∷ Char q.mark ∷ Char q.mark ∷ b.0) = sym shown ∙ b.1 in cc))));
+              subst (λ p. Opens (ends_of p) s.glyphs) (sym same) (
+                is_quote_of q seen.0,
+                ((behind_quote (advanced s)).glyphs, whole_goes.glyphs),
+                (λ one b. three_denied q.mark (sees_three q.mark (advanced s)) (advanced s).glyphs one refl (b.0, (let both : Char 114 ∷ (advanced s).glyphs ≡ Char 114 ∷ (Char q.mark ∷ Char q.mark ∷ Char q.mark ∷ b.0) = sym shown ∙ b.1 in cc))),
+              );
         }
     by_raw false f =
         let other : (c == 114) ≡ false = sym known ∙ f in
@@ -234,12 +242,16 @@ is_whole s r t o at x =
 pub unterminated : (s : Spot) (r t : Reading) → Opened s → r.at ≡ opened s → Steps (quote_of s) r false t → IsBrokenAt broken.UnterminatedString s.glyphs
 unterminated s r t o at steps =
     let q = ends_of (quote_of s) in
-    λ before.
-    (refl,
-    (q, o.opens,
-    λ body rest w.
-    let same : map Char (opening q) ++ (opened s).glyphs ≡ map Char (opening q) ++ (body ++ (map Char (closing q) ++ rest)) = sym o.goes.glyphs ∙ w.1 in
-    read_false (quote_of s) o.mark steps refl body rest (ap (λ u. u.glyphs) at ∙ append_cancel_left (map Char (opening q)) _ _ same) w.2))
+    λ before. (
+      refl,
+      (
+        q,
+        o.opens,
+        λ body rest w.
+            let same : map Char (opening q) ++ (opened s).glyphs ≡ map Char (opening q) ++ (body ++ (map Char (closing q) ++ rest)) = sym o.goes.glyphs ∙ w.1 in
+            read_false (quote_of s) o.mark steps refl body rest (ap (λ u. u.glyphs) at ∙ append_cancel_left (map Char (opening q)) _ _ same) w.2,
+      ),
+    )
 
 -- ---- no longer token begins
 
@@ -270,8 +282,10 @@ no_first_mark q m cs t h one same b = by_body (m ∷ cs) t refl b
         by_mark (inl f) (inr g) = omega arith
         by_mark (inr f) (inl g) = omega arith
         by_mark (inr f) (inr g) = omega arith
+
     shut : closing q ≡ m ∷ []
     shut = ap (λ n. replicate n q.mark) one ∙ ap (λ n. n ∷ []) same
+
     by_body : (xs u : List ℕ) → xs ≡ m ∷ cs → Body q xs u → ⊥
     by_body xs u e strings.nothing = cc
     by_body xs u e (strings.plain c ds v other going end k) =
@@ -294,7 +308,7 @@ Tail q body = closing q ++ (body ++ closing q)
 
 -- two strings that begin with the same mark, and of which the second is no longer
 module _ (q p : strings.Quote) (cs ds t u : List ℕ) (rest more : List Glyph) (h : IsQuote q) (k : IsQuote p) (raw : p.is_raw ≡ q.is_raw) (a : Body q cs t) (b : Body p ds u)
-  (single : q.count ≡ 1 → BeginsWith (q.mark ∷ q.mark ∷ q.mark ∷ []) (map Char (Tail q cs) ++ rest) → ⊥) (whole : map Char (Tail q cs) ++ rest ≡ map Char (Tail p ds) ++ more) where
+    (single : q.count ≡ 1 → BeginsWith (q.mark ∷ q.mark ∷ q.mark ∷ []) (map Char (Tail q cs) ++ rest) → ⊥) (whole : map Char (Tail q cs) ++ rest ≡ map Char (Tail p ds) ++ more) where
   same_mark : q.mark ≡ p.mark
   same_mark =
       let x = closing_cons q h in let y = closing_cons p k in
@@ -323,6 +337,7 @@ module _ (q p : strings.Quote) (cs ds t u : List ℕ) (rest more : List Glyph) (
     where
       size : (x : strings.Quote) → length (closing x) ≡ x.count
       size x = length-replicate x.count x.mark
+
       by_counts : (q.count ≡ 1) ⊎ (q.count ≡ 3) → (p.count ≡ 1) ⊎ (p.count ≡ 3) → length (Tail p ds) ≤ length (Tail q cs)
       by_counts (inl e) (inl f) = let l = alike (e ∙ sym f) in omega (arith, length-append (closing p) (ds ++ closing p), length-append ds (closing p), length-append (closing q) (cs ++ closing q), length-append cs (closing q), size p, size q)
       by_counts (inr e) (inr f) = let l = alike (e ∙ sym f) in omega (arith, length-append (closing p) (ds ++ closing p), length-append ds (closing p), length-append (closing q) (cs ++ closing q), length-append cs (closing q), size p, size q)
@@ -407,9 +422,11 @@ string_no_name (a ∷ b ∷ more) c hs rest h n l e =
     no_start : (d : ℕ) → (d ≡ 34) ⊎ (d ≡ 39) → (is_xid_start d || d == 95) ≡ true → ⊥
     no_start d (inl e) f = let ascii = is_xid_start-ascii d (omega arith) in grind (arith, nat_tests)
     no_start d (inr e) f = let ascii = is_xid_start-ascii d (omega arith) in grind (arith, nat_tests)
+
     no_goes : (d : ℕ) → (d ≡ 34) ⊎ (d ≡ 39) → is_xid_continue d ≡ true → ⊥
     no_goes d (inl e) f = let ascii = is_xid_continue-ascii d (omega arith) in grind (arith, nat_tests)
     no_goes d (inr e) f = let ascii = is_xid_continue-ascii d (omega arith) in grind (arith, nat_tests)
+
     by_tests : (w x y z : Bool) → (a == 34) ≡ w → (a == 39) ≡ x → (b == 34) ≡ y → (b == 39) ≡ z → (a == 34 || a == 39 || (a == 114 && (b == 34 || b == 39))) ≡ true → (is_xid_start a || a == 95) ≡ true → is_xid_continue b ≡ true → ⊥
     by_tests true x y z p q r s t u v = no_start a (inl (eqb-true a 34 p)) u
     by_tests false true y z p q r s t u v = no_start a (inr (eqb-true a 39 q)) u
@@ -452,6 +469,7 @@ string_IsLongest q cs t c hs rest o body h digits whole longer kind more b w = b
             by_raw : (r : Bool) → p.is_raw ≡ r → length (closing p) ≤ length (opening p)
             by_raw true e = omega (arith, ap length (opening_raw p e))
             by_raw false e = omega (arith, ap length (opening_plain p e))
+
     by_kind : (k : TokenKind) → Writes k longer → HeadIs k c (Char c ∷ hs) → ⊥
     by_kind (kinds.Word n) x head = string_no_name longer c hs b.0 h x.0 long b.1
     by_kind (kinds.Keyword k) x head = let P : List ℕ → Type 0 = λ y. IsName y in string_no_name longer c hs b.0 h (subst P (sym x) (keyword_IsName k)) long b.1
@@ -471,14 +489,18 @@ string_IsClear q cs gs rest o whole p one same b = by_count o.0.1
   where
     single : closing p ≡ p.mark ∷ []
     single = ap (λ n. replicate n p.mark) one
+
     size : (x : strings.Quote) → length (closing x) ≡ x.count
     size x = length-replicate x.count x.mark
+
     small : (y : Bool) → p.is_raw ≡ y → length (opening p ++ closing p) ≤ 3
     small true f = omega (arith, length-append (opening p) (closing p), ap length (opening_raw p f), size p, one)
     small false f = omega (arith, length-append (opening p) (closing p), ap length (opening_plain p f), size p, one)
+
     large : (y : Bool) → q.is_raw ≡ y → q.count ≡ 3 → 6 ≤ length (text_by q cs)
     large true f n = omega (arith, ap length (raw_text q cs f), length-append (closing q) (cs ++ closing q), length-append cs (closing q), size q, n)
     large false f n = omega (arith, ap length (plain_text q cs f), length-append (closing q) (cs ++ closing q), length-append cs (closing q), size q, n)
+
     -- behind the `r`, if there is one, the text is two marks
     two_marks : q.count ≡ 1 → Tail q cs ≡ p.mark ∷ p.mark ∷ [] → (q.mark ≡ p.mark) × (Tail q cs ≡ q.mark ∷ q.mark ∷ [])
     two_marks n e =
@@ -486,11 +508,13 @@ string_IsClear q cs gs rest o whole p one same b = by_count o.0.1
         let shown : q.mark ∷ f.0 ≡ p.mark ∷ p.mark ∷ [] = sym f.1 ∙ e in
         let mark : q.mark ≡ p.mark = cc in
         (mark, e ∙ ap (λ m. m ∷ m ∷ []) (sym mark))
+
     three_begin : q.count ≡ 1 → (mark : q.mark ≡ p.mark) → (front : List ℕ) → text_by q cs ≡ front ++ (q.mark ∷ q.mark ∷ []) → gs ≡ map Char (front ++ (q.mark ∷ q.mark ∷ q.mark ∷ [])) ++ b.0
     three_begin n mark front e =
         let behind : rest ≡ Char q.mark ∷ b.0 = b.1 ∙ ap (λ m. Char m ∷ b.0) (sym mark) in
         whole ∙ ap (λ w. map Char w ++ rest) e ∙ ap (λ w. w ++ rest) (map-append Char front (q.mark ∷ q.mark ∷ [])) ∙ append_assoc (map Char front) (Char q.mark ∷ Char q.mark ∷ []) rest
         ∙ ap (λ w. map Char front ++ (Char q.mark ∷ Char q.mark ∷ w)) behind ∙ sym (append_assoc (map Char front) (Char q.mark ∷ Char q.mark ∷ Char q.mark ∷ []) b.0) ∙ ap (λ w. w ++ b.0) (sym (map-append Char front (q.mark ∷ q.mark ∷ q.mark ∷ [])))
+
     by_raw : (x y : Bool) → q.is_raw ≡ x → p.is_raw ≡ y → q.count ≡ 1 → ⊥
     by_raw true true e f n =
         let shown : 114 ∷ Tail q cs ≡ 114 ∷ p.mark ∷ p.mark ∷ [] = sym (raw_text q cs e) ∙ same ∙ ap (λ w. w ++ closing p) (opening_raw p f ∙ ap (λ w. 114 ∷ w) single) ∙ ap (λ w. 114 ∷ p.mark ∷ w) single in
@@ -509,6 +533,7 @@ string_IsClear q cs gs rest o whole p one same b = by_count o.0.1
         let tail : Tail q cs ≡ p.mark ∷ p.mark ∷ [] = sym (plain_text q cs e) ∙ same ∙ ap (λ w. w ++ closing p) (opening_plain p f ∙ single) ∙ ap (λ w. p.mark ∷ w) single in
         let two = two_marks n tail in
         opens_three q gs o n (b.0, three_begin n two.0 [] (plain_text q cs e ∙ two.1) ∙ ap (λ w. map Char w ++ b.0) (sym (opening_plain (made q.is_raw q.mark 3) e)))
+
     by_count : (q.count ≡ 1) ⊎ (q.count ≡ 3) → ⊥
     by_count (inl n) = by_raw q.is_raw p.is_raw refl refl n
     by_count (inr n) = let l = large q.is_raw refl n in let k = small p.is_raw refl in omega (arith, ap length same)
@@ -524,6 +549,7 @@ string_token s r t e at none clean steps sound_end =
   where
     q : strings.Quote
     q = ends_of (quote_of s)
+
     by_outcome : StringHere s.glyphs → Opened s → (x : Read (quote_of s) r t) → Outcome (quote_of s) r t x.body → IsToken (kinds.Quoted t.chars) s.glyphs t.at.glyphs
     by_outcome here o x (sound codes text whole chars fault body) =
         let w = is_whole s r t o at x in
@@ -533,11 +559,15 @@ string_token s r t e at none clean steps sound_end =
         let P : List Glyph → Type 0 = λ k. Opens (ends_of (quote_of s)) k in
         let Q : List Glyph → Type 0 = λ k. opens_string here.c k ≡ true in
         let longest = string_IsLongest (ends_of (quote_of s)) codes text here.c (drop 1 s.glyphs) t.at.glyphs (subst P here.head o.opens) body (subst Q here.head here.opens) here.digits (sym here.head ∙ shown) in
-        let R : List Glyph → Type 0 = λ k. IsLongest (opening (ends_of (quote_of s)) ++ codes ++ closing (ends_of (quote_of s))) k in
-        (opening (ends_of (quote_of s)) ++ codes ++ closing (ends_of (quote_of s)), shown,
-        ((ends_of (quote_of s), codes, is_quote_of (quote_of s) o.mark, refl, subst (λ k. Body (ends_of (quote_of s)) codes k) (sym same) body),
-        subst R (sym here.head ∙ shown) longest,
-        string_IsClear (ends_of (quote_of s)) codes s.glyphs t.at.glyphs o.opens shown))
+        let R : List Glyph → Type 0 = λ k. IsLongest (opening (ends_of (quote_of s)) ++ codes ++ closing (ends_of (quote_of s))) k in (
+          opening (ends_of (quote_of s)) ++ codes ++ closing (ends_of (quote_of s)),
+          shown,
+          (
+            (ends_of (quote_of s), codes, is_quote_of (quote_of s) o.mark, refl, subst (λ k. Body (ends_of (quote_of s)) codes k) (sym same) body),
+            subst R (sym here.head ∙ shown) longest,
+            string_IsClear (ends_of (quote_of s)) codes s.glyphs t.at.glyphs o.opens shown,
+          ),
+        )
       where
         joined : (a b c : List ℕ) (gs : List Glyph) → map Char a ++ (map Char b ++ (map Char c ++ gs)) ≡ map Char (a ++ b ++ c) ++ gs
         joined a b c gs =
@@ -551,9 +581,12 @@ broken_inside q broken.NotUtf8 gs body rest front w x before =
     let o = map Char (opening (ends_of q)) in
     let tail = map Char (closing (ends_of q)) ++ rest in
     let shown : gs ≡ (o ++ front) ++ Bad x.0 ∷ (x.1.0 ++ tail) =
-    w.1 ∙ ap (λ k. o ++ (k ++ tail)) x.1.1 ∙ ap (λ k. o ++ k) (append_assoc front (Bad x.0 ∷ x.1.0) tail) ∙ sym (append_assoc o front (Bad x.0 ∷ (x.1.0 ++ tail))) in
-    (x.0, x.1.0 ++ tail, shown,
-    inr (inr (ends_of q, body, rest, front, w, refl, omega (arith, length-append o front, length-map (opening (ends_of q)) Char, ap length x.1.1, length-append front (Bad x.0 ∷ x.1.0)))))
+    w.1 ∙ ap (λ k. o ++ (k ++ tail)) x.1.1 ∙ ap (λ k. o ++ k) (append_assoc front (Bad x.0 ∷ x.1.0) tail) ∙ sym (append_assoc o front (Bad x.0 ∷ (x.1.0 ++ tail))) in (
+      x.0,
+      x.1.0 ++ tail,
+      shown,
+      inr (inr (ends_of q, body, rest, front, w, refl, omega (arith, length-append o front, length-map (opening (ends_of q)) Char, ap length x.1.1, length-append front (Bad x.0 ∷ x.1.0)))),
+    )
 broken_inside q broken.BadEscape gs body rest front w x before = (ends_of q, body, rest, front, x.0, w, x.1.0, refl, x.1.1, x.1.2, x.1.3, x.1.4)
 broken_inside q _ gs body rest front w x before = absurd x
 
