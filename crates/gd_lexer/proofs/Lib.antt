@@ -15,6 +15,7 @@ pub mod EscapeMeets
 pub mod StringMeets
 pub mod StringToken
 pub mod BracketLemmas
+pub mod CutLemmas
 pub mod CursorLemmas
 pub mod FollowsLemmas
 pub mod FoundLemmas

@@ -18,3 +18,4 @@ pub mod Word
 pub mod Start
 pub mod Token
 pub mod Brackets
+pub mod Cut
