@@ -256,7 +256,7 @@ then_walks v w f g = (
       record { more = two.more; whole = one.whole ∙ ap (λ t. v ++ t) two.whole ∙ sym (append_assoc v w two.more); inside = two.inside }),
 )
 
-slash_not_mark : (q : Quote) → IsQuote q → 92 ≢ q.mark
+pub slash_not_mark : (q : Quote) → IsQuote q → 92 ≢ q.mark
 slash_not_mark q h = by_mark h.0
   where
     by_mark : (q.mark ≡ 34) ⊎ (q.mark ≡ 39) → 92 ≡ q.mark → ⊥
@@ -375,7 +375,7 @@ no_long hs scalars e x (inr (inr (inr (inr h)))) b = let p = (second_of e 117 85
 abbrev Unless : Spot → Type 0
 Unless s = (e x : List ℕ) → IsEscape e x → BeginsWith e (Char 92 ∷ s.glyphs) → ⊥
 
-letter_walks : (c : ℕ) (cs : List ℕ) → All IsHex cs → Walks (Char 92 ∷ Char c ∷ map Char cs)
+pub letter_walks : (c : ℕ) (cs : List ℕ) → All IsHex cs → Walks (Char 92 ∷ Char c ∷ map Char cs)
 letter_walks c cs a = then_walks (Char 92 ∷ Char c ∷ []) (map Char cs) (taken_walks (Char c)) (hex_walks cs a)
 
 goes_letter : (c : ℕ) (cs : List ℕ) (s t : Spot) (hs : List Glyph) → s.glyphs ≡ Char c ∷ hs → Goes (advanced s) (map Char cs) t → Goes s (map Char (c ∷ cs)) t

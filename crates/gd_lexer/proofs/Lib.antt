@@ -13,6 +13,9 @@ pub mod MarkMeets
 pub mod NumberMeets
 pub mod EscapeMeets
 pub mod StringMeets
+pub mod StringToken
+pub mod BracketLemmas
+pub mod CutLemmas
 pub mod CursorLemmas
 pub mod FollowsLemmas
 pub mod FoundLemmas

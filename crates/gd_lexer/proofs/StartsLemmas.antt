@@ -24,7 +24,7 @@ digit_there c e = let small : digit_value c < 10 = grind (arith, nat_tests) in t
     there true f = refl
     there false f = cc
 
-not_marked : (o : Option (Mark × ℕ)) (s : Start) → marked o ≡ Some s → (m : Mark × ℕ) × (s ≡ starts.Mark m.0 m.1)
+pub not_marked : (o : Option (Mark × ℕ)) (s : Start) → marked o ≡ Some s → (m : Mark × ℕ) × (s ≡ starts.Mark m.0 m.1)
 not_marked None s e = cc
 not_marked (Some m) s e = (m, cc)
 

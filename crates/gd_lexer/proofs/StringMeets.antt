@@ -420,12 +420,12 @@ three_marks m (g ∷ h ∷ i ∷ gs) e f =
     let p = char_is (Some g) m e in let q = char_is (Some h) m both.0 in let r = char_is (Some i) m both.1 in
     let first : g ≡ Char m = cc in let second : h ≡ Char m = cc in let third : i ≡ Char m = cc in rw (first, second, third) refl
 
-three_goes : (s : Spot) (m : ℕ) → s.glyphs ≡ Char m ∷ Char m ∷ Char m ∷ drop 3 s.glyphs → Goes s (Char m ∷ Char m ∷ Char m ∷ []) (three s)
+pub three_goes : (s : Spot) (m : ℕ) → s.glyphs ≡ Char m ∷ Char m ∷ Char m ∷ drop 3 s.glyphs → Goes s (Char m ∷ Char m ∷ Char m ∷ []) (three s)
 three_goes s m e =
     then_goes s (advanced s) (three s) (Char m ∷ []) (Char m ∷ Char m ∷ []) (goes_one s (Char m) (Char m ∷ Char m ∷ drop 3 s.glyphs) e)
     (two_goes (advanced s) (Char m) (Char m) (drop 3 s.glyphs) (rest_of s (Char m) (Char m ∷ Char m ∷ drop 3 s.glyphs) e))
 
-closing_of : (q : Quote) (b : Bool) → q.is_triple ≡ b → closing (ends_of q) ≡ replicate (count_of b) q.mark
+pub closing_of : (q : Quote) (b : Bool) → q.is_triple ≡ b → closing (ends_of q) ≡ replicate (count_of b) q.mark
 closing_of q b e = ap (λ t. replicate (count_of t) q.mark) e
 
 closed_goes : (q : Quote) (s t : Spot) → closed q s ≡ Some t → Goes s (map Char (closing (ends_of q))) t

@@ -17,3 +17,5 @@ pub mod Mark
 pub mod Word
 pub mod Start
 pub mod Token
+pub mod Brackets
+pub mod Cut

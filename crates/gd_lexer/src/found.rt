@@ -1,5 +1,5 @@
 //! What was found in a file.
-ghost use Rattle.std.specs.Prelude.{◌≡◌, ◌+◌, ◌≤◌, [], OnOk, IfOk, length};
+ghost use Rattle.std.specs.Prelude.{◌≡◌, ◌+◌, ◌≤◌, ◌++◌, ◌∷◌, [], OnOk, IfOk, length};
 ghost use Rattle.gd_lexer.specs.Follows.{IsAtMost};
 ghost use Rattle.gd_lexer.specs.Found.{IsNotEnd, AreWhole};
 
@@ -68,6 +68,7 @@ impl Found {
         requires open { IsNotEnd kind }
         ensures last { OnOk result (self.new.last ≡ pos) }
         ensures count { OnOk result (length self.new.tokens ≡ length self.old.tokens + 1) }
+        ensures tokens { OnOk result (self.new.tokens ≡ self.old.tokens ++ record { pos = pos; kind = kind } ∷ []) }
     {
         self.spans.push(span)?;
         self.tokens.push(Token { pos, kind })?;
@@ -84,6 +85,7 @@ impl Found {
         requires open { IsNotEnd kind }
         ensures last { OnOk result (self.new.last ≡ pos) }
         ensures count { OnOk result (length self.new.tokens ≡ length self.old.tokens + 1) }
+        ensures tokens { OnOk result (self.new.tokens ≡ self.old.tokens ++ record { pos = pos; kind = kind } ∷ []) }
     {
         self.push(pos, kind, Span { start: at, end: at })
     }
@@ -105,6 +107,7 @@ impl Found {
         requires later { IsAtMost self.last pos }
         ensures whole { IfOk result (λ w. AreWhole pos.file w.tokens.items) }
         ensures count { IfOk result (λ w. length w.tokens.items ≡ length self.tokens + 1) }
+        ensures tokens { IfOk result (λ w. w.tokens.items ≡ self.tokens ++ record { pos = pos; kind = TokenKind.End } ∷ []) }
     {
         let Found {
             mut tokens,

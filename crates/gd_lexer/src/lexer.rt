@@ -1,7 +1,7 @@
 //! The steps over a file.
-ghost use Rattle.std.specs.Prelude.{◌≡◌, ◌<◌, ◌≤◌, ◌+◌, ◌-◌, ◌*◌, OnOk, IfOk, IfErr, IsTrue, Some, None, length, slice_get};
+ghost use Rattle.std.specs.Prelude.{◌≡◌, ◌<◌, ◌≤◌, ◌+◌, ◌-◌, ◌*◌, OnOk, IfOk, IfErr, IfSome, IsTrue, Some, None, length, slice_get};
 ghost use Rattle.gd_lexer.specs.declared.lexer.Start.TheVariants as starts;
-ghost use Rattle.gd_lexer.specs.Token.{IsToken, IsFaultOf};
+ghost use Rattle.gd_lexer.specs.Token.{IsToken, IsInner, IsFaultOf};
 ghost use Rattle.gd_lexis.specs.declared.glyph.Glyph.TheVariants.{Char};
 ghost use Rattle.gd_lexer.specs.Start as spec;
 ghost use Rattle.gd_lexer.specs.Lexical.{is_lexical};
@@ -21,8 +21,8 @@ use crate::stop::{Fault, Stop, fault_at};
 use crate::stopped::stop_at;
 use crate::word::{Word, word_of};
 use gd_lexis::Glyph;
-use gd_model::Rule;
-use gd_syntax::{Mark, Pos, Text, TokenKind};
+use gd_model::{Rule, impossible};
+use gd_syntax::{Mark, Pos, Text, TextFault, TokenKind};
 use no_memory::NoMemory;
 use std::alloc::Global;
 
@@ -337,6 +337,9 @@ impl<'a> Lexer<'a> {
         requires starts { Some start ≡ spec.start_at self.old.cursor.glyphs }
         requires line { 1 ≤ pos.line }
         requires column { 1 ≤ pos.column }
+        ensures token { IfOk result (λ r. r.1 ≡ None → IsToken r.0 self.old.cursor.glyphs self.new.cursor.glyphs) }
+        ensures inner { IfOk result (λ r. IfSome r.1 (λ f. IsInner self.old.cursor f.pos f.rule)) }
+        ensures fault { IfErr result (IsFaultOf pos self.old.cursor.glyphs) }
         ensures found { self.new.found ≡ self.old.found }
         ensures lines { self.new.lines ≡ self.old.lines }
         ensures kind { IfOk result (λ r. IsNotEnd r.0) }
@@ -358,7 +361,8 @@ impl<'a> Lexer<'a> {
         requires starts { Some starts.Number ≡ spec.start_at self.old.cursor.glyphs }
         requires line { 1 ≤ pos.line }
         requires column { 1 ≤ pos.column }
-        ensures token { IfOk result (λ r. (IsToken r.0 self.old.cursor.glyphs self.new.cursor.glyphs) × (r.1 ≡ None)) }
+        ensures token { IfOk result (λ r. r.1 ≡ None → IsToken r.0 self.old.cursor.glyphs self.new.cursor.glyphs) }
+        ensures inner { IfOk result (λ r. IfSome r.1 (λ f. IsInner self.old.cursor f.pos f.rule)) }
         ensures fault { IfErr result (IsFaultOf pos self.old.cursor.glyphs) }
         ensures found { self.new.found ≡ self.old.found }
         ensures lines { self.new.lines ≡ self.old.lines }
@@ -415,7 +419,8 @@ impl<'a> Lexer<'a> {
         requires starts { Some (starts.Name c) ≡ spec.start_at self.old.cursor.glyphs }
         requires line { 1 ≤ pos.line }
         requires column { 1 ≤ pos.column }
-        ensures token { IfOk result (λ r. (IsToken r.0 self.old.cursor.glyphs self.new.cursor.glyphs) × (r.1 ≡ None)) }
+        ensures token { IfOk result (λ r. r.1 ≡ None → IsToken r.0 self.old.cursor.glyphs self.new.cursor.glyphs) }
+        ensures inner { IfOk result (λ r. IfSome r.1 (λ f. IsInner self.old.cursor f.pos f.rule)) }
         ensures fault { IfErr result (IsFaultOf pos self.old.cursor.glyphs) }
         ensures found { self.new.found ≡ self.old.found }
         ensures lines { self.new.lines ≡ self.old.lines }
@@ -434,9 +439,14 @@ impl<'a> Lexer<'a> {
         }
     }
 
+    /// Goes over a string.
     fn quoted(&mut self, pos: Pos) -> Result<Scanned, Stop>
+        requires starts { Some starts.Quoted ≡ spec.start_at self.old.cursor.glyphs }
         requires line { 1 ≤ pos.line }
         requires column { 1 ≤ pos.column }
+        ensures token { IfOk result (λ r. r.1 ≡ None → IsToken r.0 self.old.cursor.glyphs self.new.cursor.glyphs) }
+        ensures inner { IfOk result (λ r. IfSome r.1 (λ f. IsInner self.old.cursor f.pos f.rule)) }
+        ensures fault { IfErr result (IsFaultOf pos self.old.cursor.glyphs) }
         ensures found { self.new.found ≡ self.old.found }
         ensures lines { self.new.lines ≡ self.old.lines }
         ensures kind { IfOk result (λ r. IsNotEnd r.0) }
@@ -459,6 +469,8 @@ impl<'a> Lexer<'a> {
         let chars = Vec::from_slice(self.alloc, self.body.chars.as_slice())?;
         match Text::of(chars) {
             Ok(text) => Ok(text),
+            // A file has fewer characters than a text may have.
+            Err(TextFault::TooLong) => Err(impossible().into()),
             Err(_) => Err(NoMemory),
         }
     }

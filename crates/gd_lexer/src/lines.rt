@@ -1,5 +1,5 @@
 //! Logical lines, their levels, and the open blocks.
-ghost use Rattle.std.specs.Prelude.{◌≡◌, ◌<◌, ◌≤◌, ◌+◌, ◌-◌, ◌++◌, [], ◌∷◌, length, true, false, OnOk, IfErr};
+ghost use Rattle.std.specs.Prelude.{◌≡◌, ◌<◌, ◌≤◌, ◌+◌, ◌-◌, ◌++◌, [], ◌∷◌, length, true, false, None, OnOk, IfErr};
 
 use crate::stop::{Fault, Stop, fault_at};
 use crate::stopped::stop_at;
@@ -79,7 +79,8 @@ impl Lines {
     pub fn blank(&mut self, blank: Blank, pos: Pos)
         requires line { 1 ≤ pos.line }
         requires column { 1 ≤ pos.column }
-        ensures { Keeps self.old self.new }
+        ensures keeps { Keeps self.old self.new }
+        ensures hidden { self.new.lead.hidden ≡ self.old.lead.hidden }
     {
         if self.is_open {
             return;
@@ -95,19 +96,30 @@ impl Lines {
     /// Takes a fault at a glyph that begins no token. It is put off where the line, if it has a token, has
     /// a fault before it.
     pub fn stray(&mut self, fault: Fault) -> Result<(), Stop>
-        ensures { Keeps self.old self.new }
+        ensures keeps { Keeps self.old self.new }
+        ensures hidden { OnOk result (self.new.lead.hidden ≡ None → ⊥) }
     {
         if self.is_open || self.lead.mixed.is_none() {
             return Err(Stop::Fault(fault));
         }
-        if self.lead.hidden.is_none() {
-            self.lead.hidden = Some(fault);
-        }
+        self.hide(fault);
         Ok(())
     }
 
+    /// Puts a fault off, if none is put off yet.
+    fn hide(&mut self, fault: Fault)
+        ensures keeps { Keeps self.old self.new }
+        ensures hidden { self.new.lead.hidden ≡ None → ⊥ }
+    {
+        if self.lead.hidden.is_none() {
+            self.lead.hidden = Some(fault);
+        }
+    }
+
     /// Takes a comment, behind which the line has no token.
-    pub fn comment(&self) -> Result<(), Stop> {
+    pub fn comment(&self) -> Result<(), Stop>
+        ensures { OnOk result (self.now.lead.hidden ≡ None) }
+    {
         match self.lead.hidden {
             Some(fault) => Err(Stop::Fault(fault)),
             None => Ok(()),
@@ -118,6 +130,7 @@ impl Lines {
     pub fn open(&mut self) -> Result<u32, Stop>
         ensures open { OnOk result (self.new.is_open ≡ true) }
         ensures blocks { self.new.blocks ≡ self.old.blocks }
+        ensures lead { self.new.lead ≡ self.old.lead }
     {
         if let Some(fault) = self.lead.mixed {
             return Err(Stop::Fault(fault));
@@ -131,6 +144,7 @@ impl Lines {
     pub fn end(&mut self) -> Result<(), Stop>
         ensures open { OnOk result (self.new.is_open ≡ false) }
         ensures blocks { self.new.blocks ≡ self.old.blocks }
+        ensures hidden { OnOk result (self.old.lead.hidden ≡ None) }
     {
         self.comment()?;
         self.lead = lead_of(self.kind);
@@ -152,6 +166,7 @@ impl Lines {
     pub fn close_block(&mut self)
         ensures blocks { length self.new.blocks ≡ length self.old.blocks - 1 }
         ensures open { self.new.is_open ≡ self.old.is_open }
+        ensures lead { self.new.lead ≡ self.old.lead }
     {
         self.blocks.pop();
     }
@@ -165,6 +180,7 @@ impl Lines {
         ensures room { OnOk result (length self.old.blocks < 32) }
         ensures full { IfErr result (IsFaultAt pos Rule.BlocksTooDeep (32 ≤ length self.old.blocks)) }
         ensures open { self.new.is_open ≡ self.old.is_open }
+        ensures lead { self.new.lead ≡ self.old.lead }
     {
         if self.blocks.len() >= MAX_BLOCKS {
             return Err(stop_at(pos, Rule::BlocksTooDeep));

@@ -1,7 +1,7 @@
 use Rattle.gd_model.specs.declared.rule.Rule.TheVariants.{Float}
 use Rattle.gd_lexer.proofs.StartsLemmas.{float_read}
 use Rattle.gd_lexer.proofs.FaultMeets.{by_stop}
-use Rattle.gd_lexer.proofs.StringMeets.{slash_is}
+use Rattle.gd_lexer.proofs.StringToken.{unterminated}
 use Rattle.gd_lexer.proofs.lexer.Lexer.float.Goals as goal
 
 pub returns : goal.returns

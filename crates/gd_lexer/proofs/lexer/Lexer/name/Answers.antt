@@ -1,5 +1,5 @@
 use Rattle.std.proofs.lemmas.Result.{err_from_is_err_and}
-use Rattle.std.proofs.Common.{◌≡◌, ◌∙◌, ap, sym, refl}
+use Rattle.std.proofs.Common.{◌≡◌, ◌∙◌, ap, sym}
 use Rattle.gd_lexer.specs.declared.word.Word.TheVariants as words
 use Rattle.gd_lexer.specs.Word.{word_at}
 use Rattle.gd_lexer.proofs.NameMeets.{name_token}
@@ -17,20 +17,18 @@ returns-in_err-text-in-Name-clause-fault c = let p = err_from_is_err_and c.from_
 
 pub returns-in_ok-text-in-Name-clause-token : goal.returns-in_ok-text-in-Name-clause-token
 returns-in_ok-text-in-Name-clause-token c =
-    let text = c.in_ok-text-in-Name.ensures in (
-      name_token words.Name c.args.c c.in_ok-text-in-Name.field-0 c.clear.new.self.chars.items c.push.new.self.chars.items c.args.self.now.cursor.glyphs c.advance.new.self.glyphs
-          c.read_name.new.cursor.glyphs c.requires.starts c.clear.ensures.chars c.in_ok-push.ensures.chars c.advance.ensures.rest (text ∙ c.in_ok-read_name.ensures.chars)
-          c.in_ok-read_name.ensures.rest (sym c.in-Name.is ∙ c.word_of.ensures ∙ ap word_at (c.as_slice.ensures.value ∙ sym text)),
-      refl,
-    )
+    let text = c.in_ok-text-in-Name.ensures in
+    λ _.
+    name_token words.Name c.args.c c.in_ok-text-in-Name.field-0 c.clear.new.self.chars.items c.push.new.self.chars.items c.args.self.now.cursor.glyphs c.advance.new.self.glyphs
+    c.read_name.new.cursor.glyphs c.requires.starts c.clear.ensures.chars c.in_ok-push.ensures.chars c.advance.ensures.rest (text ∙ c.in_ok-read_name.ensures.chars)
+    c.in_ok-read_name.ensures.rest (sym c.in-Name.is ∙ c.word_of.ensures ∙ ap word_at (c.as_slice.ensures.value ∙ sym text))
 
 pub returns-in-Keyword-clause-token : goal.returns-in-Keyword-clause-token
-returns-in-Keyword-clause-token c = (
-  name_token (words.Keyword c.in-Keyword.keyword) c.args.c c.read_name.new.chars.items c.clear.new.self.chars.items c.push.new.self.chars.items c.args.self.now.cursor.glyphs c.advance.new.self.glyphs
-      c.read_name.new.cursor.glyphs c.requires.starts c.clear.ensures.chars c.in_ok-push.ensures.chars c.advance.ensures.rest c.in_ok-read_name.ensures.chars
-      c.in_ok-read_name.ensures.rest (sym c.in-Keyword.is ∙ c.word_of.ensures ∙ ap word_at c.as_slice.ensures.value),
-  refl,
-)
+returns-in-Keyword-clause-token c =
+    λ _.
+    name_token (words.Keyword c.in-Keyword.keyword) c.args.c c.read_name.new.chars.items c.clear.new.self.chars.items c.push.new.self.chars.items c.args.self.now.cursor.glyphs c.advance.new.self.glyphs
+    c.read_name.new.cursor.glyphs c.requires.starts c.clear.ensures.chars c.in_ok-push.ensures.chars c.advance.ensures.rest c.in_ok-read_name.ensures.chars
+    c.in_ok-read_name.ensures.rest (sym c.in-Keyword.is ∙ c.word_of.ensures ∙ ap word_at c.as_slice.ensures.value)
 
 pub returns-in-Float-clause-fault : goal.returns-in-Float-clause-fault
 returns-in-Float-clause-fault c =

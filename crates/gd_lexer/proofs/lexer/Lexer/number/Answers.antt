@@ -30,11 +30,10 @@ passed n gs rest h =
     fits_pos v small = omega arith
 
 pub returns-in-Ok-clause-token : goal.returns-in-Ok-clause-token
-returns-in-Ok-clause-token c = (
-  passed c.in-Ok.value c.args.self.now.cursor.glyphs c.number.new.cursor.glyphs
-      (met (Ok c.in-Ok.value) _ c.args.self.now.cursor.glyphs c.number.new.cursor.glyphs _ (sym c.in-Ok.is ∙ c.number.ensures.value) c.number.ensures.rest (number_read c.args.self.now.cursor.glyphs c.requires.starts)),
-  refl,
-)
+returns-in-Ok-clause-token c =
+    λ _.
+    passed c.in-Ok.value c.args.self.now.cursor.glyphs c.number.new.cursor.glyphs
+    (met (Ok c.in-Ok.value) _ c.args.self.now.cursor.glyphs c.number.new.cursor.glyphs _ (sym c.in-Ok.is ∙ c.number.ensures.value) c.number.ensures.rest (number_read c.args.self.now.cursor.glyphs c.requires.starts))
 
 pub returns-in-Err-clause-fault : goal.returns-in-Err-clause-fault
 returns-in-Err-clause-fault c =
