@@ -1,3 +1,9 @@
 pub mod Readings
 pub mod Texts
 pub mod Firsts
+pub mod Digits
+pub mod Lists
+pub mod Escapes
+pub mod Bodies
+pub mod Tokens
+pub mod Cuts

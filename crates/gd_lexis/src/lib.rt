@@ -2,13 +2,19 @@
 //! specs/, and the functions here are laws about them.
 #![tactic(auto)]
 
-ghost use Rattle.std.specs.Prelude.{◌≡◌, List, ℕ};
+ghost use Rattle.std.specs.Prelude.{◌≡◌, List, ℕ, ◌++◌};
 ghost use Rattle.gd_syntax.specs.declared.token.Keyword.{Keyword};
 ghost use Rattle.gd_syntax.specs.declared.token.Mark.{Mark};
 ghost use Rattle.gd_lexis.specs.Chars.{Glyph, Reads};
 ghost use Rattle.gd_syntax.specs.declared.pos.Pos.{Pos};
 ghost use Rattle.gd_model.specs.declared.rule.Rule.{Rule};
 ghost use Rattle.gd_lexis.specs.Words.{keyword_text, mark_text};
+ghost use Rattle.gd_lexis.specs.Numbers.{WritesNumber};
+ghost use Rattle.gd_lexis.specs.Strings.{WritesString};
+ghost use Rattle.gd_syntax.specs.declared.token.TokenKind.{TokenKind};
+ghost use Rattle.gd_lexis.specs.Pieces.{Writes};
+ghost use Rattle.gd_syntax.specs.declared.token.Token.{Token};
+ghost use Rattle.gd_lexis.specs.Lexes.{Lexes};
 ghost use Rattle.gd_lexis.specs.Faults.{FirstFault, number};
 
 /// Bytes are read as glyphs in at most one way.
@@ -33,4 +39,24 @@ pub fn one_mark()
 pub fn one_first_fault()
     ensures { (file : ℕ) (bytes : List ℕ) (at : Pos) (place : Pos) (rule : Rule) (other : Rule)
         → FirstFault file bytes at rule → FirstFault file bytes place other → (at ≡ place) × (number rule ≡ number other) }
+{}
+
+/// A text writes at most one number.
+pub fn one_number()
+    ensures { (text : List ℕ) (m : ℕ) (n : ℕ) → WritesNumber text m → WritesNumber text n → m ≡ n }
+{}
+
+/// A text writes at most one string.
+pub fn one_string()
+    ensures { (text : List ℕ) (t : List ℕ) (u : List ℕ) → WritesString text t → WritesString text u → t ≡ u }
+{}
+
+/// A text writes a token of at most one kind.
+pub fn one_kind()
+    ensures { (k : TokenKind) (l : TokenKind) (text : List ℕ) → Writes k text → Writes l text → k ≡ l }
+{}
+
+/// A file has at most one list of tokens.
+pub fn one_token_list()
+    ensures { (file : ℕ) (bytes : List ℕ) (tokens : List Token) (others : List Token) → Lexes file bytes tokens → Lexes file bytes others → tokens ≡ others }
 {}
