@@ -1,9 +1,9 @@
 -- A text writes at most one string.
-use Rattle.std.proofs.Common.{◌≡◌, ◌≢◌, ℕ, ◌<◌, Bool, true, false, List, [], ◌∷◌, ◌++◌, length, refl, ap, sym, ◌∙◌, subst, inl, inr, arith, append_assoc, nat_eq, true≢false, replicate}
+use Rattle.std.proofs.Common.{◌≡◌, ◌≢◌, ℕ, Bool, true, false, List, [], ◌∷◌, ◌++◌, refl, ap, sym, ◌∙◌, subst, inl, inr, arith, append_assoc, true≢false}
 use Rattle.std.specs.Prelude.{◌⊎◌}
 use Rattle.std.proofs.lemmas.List.{append_cancel_left, append_cancel_right}
 use Rattle.std.proofs.lemmas.Bool.{eq-eqb}
-use Rattle.gd_lexis.specs.Strings.{Quote, IsQuote, opening, closing, ends_here, begins_line_end, IsEscape, Body, nothing, plain, line_end, escape, kept, kept_line_end, WritesString}
+use Rattle.gd_lexis.specs.Strings.{Quote, opening, closing, ends_here, begins_line_end, IsEscape, Body, nothing, plain, line_end, escape, kept, kept_line_end, WritesString}
 use Rattle.gd_lexis.proofs.Lists.{cons_parts, not_empty}
 use Rattle.gd_lexis.proofs.Escapes.{meant, one_escape}
 
@@ -131,15 +131,15 @@ written_by text t body q marks (inl e) h b =
     let same : q ≡ one q.is_raw q.mark = ap (λ n. record { is_raw = q.is_raw; mark = q.mark; count = n }) e in
     let P : Quote → Type 0 = λ r. Body r body t in
     single q.is_raw q.mark body marks
-        (h ∙ ap (λ r. opening r ++ body ++ closing r) same ∙ append_assoc (opening (one q.is_raw q.mark)) body (q.mark ∷ []) ∙ opening_is q.is_raw q.mark (body ++ q.mark ∷ []))
-        (subst P same b)
+    (h ∙ ap (λ r. opening r ++ body ++ closing r) same ∙ append_assoc (opening (one q.is_raw q.mark)) body (q.mark ∷ []) ∙ opening_is q.is_raw q.mark (body ++ q.mark ∷ []))
+    (subst P same b)
 written_by text t body q marks (inr e) h b =
     let same : q ≡ three q.is_raw q.mark = ap (λ n. record { is_raw = q.is_raw; mark = q.mark; count = n }) e in
     let P : Quote → Type 0 = λ r. Body r body t in
     let end = q.mark ∷ q.mark ∷ q.mark ∷ [] in
     triple q.is_raw q.mark body marks
-        (h ∙ ap (λ r. opening r ++ body ++ closing r) same ∙ append_assoc (opening (three q.is_raw q.mark)) body end ∙ opening_three q.is_raw q.mark (body ++ end))
-        (subst P same b)
+    (h ∙ ap (λ r. opening r ++ body ++ closing r) same ∙ append_assoc (opening (three q.is_raw q.mark)) body end ∙ opening_three q.is_raw q.mark (body ++ end))
+    (subst P same b)
 
 pub written : (text t : List ℕ) → WritesString text t → Written text t
 written text t h = written_by text t h.1 h.0 h.2.0 h.2.1 h.3 h.4

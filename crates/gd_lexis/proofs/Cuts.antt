@@ -1,5 +1,5 @@
 -- A file is cut into pieces in one way.
-use Rattle.std.proofs.Common.{◌≡◌, ◌≢◌, ℕ, ◌+◌, ◌<◌, false, true, ◌==◌, List, [], ◌∷◌, ◌++◌, length, map, refl, ap, sym, ◌∙◌, subst, inl, inr, arith, true≢false, append-nil}
+use Rattle.std.proofs.Common.{◌≡◌, ◌≢◌, ℕ, ◌<◌, false, List, [], ◌∷◌, ◌++◌, length, map, refl, ap, sym, ◌∙◌, subst, inl, inr, arith, true≢false, append-nil}
 use Rattle.std.specs.Prelude.{◌⊎◌, All}
 use Rattle.std.proofs.lemmas.Bool.{cases_order}
 use Rattle.std.proofs.lemmas.List.{append_cancel_left}
@@ -7,11 +7,13 @@ use Rattle.std.proofs.lemmas.List.Elements.{All-head, All-tail}
 use Rattle.gd_syntax.specs.declared.token.TokenKind.{TokenKind}
 use Rattle.gd_syntax.specs.declared.token.TokenKind.TheVariants as kinds
 use Rattle.gd_syntax.specs.declared.token.Token.{Token}
-use Rattle.gd_lexis.specs.Chars.{Glyph, Char, Bad, Reads, IsFile, begins_with_mark}
+use Rattle.gd_lexis.specs.declared.glyph.Glyph.{Glyph}
+use Rattle.gd_lexis.specs.declared.glyph.Glyph.TheVariants.{Char}
+use Rattle.gd_lexis.specs.Chars.{IsFile, begins_with_mark}
 use Rattle.gd_lexis.specs.Pieces.{Piece, Blank, LineFeed, Join, Comment, Tok, text_of, Writes, BeginsWith, IsLineEnd, IsLongest, Stands, IsCut}
 use Rattle.gd_lexis.specs.Lines.{lines_of, laid}
 use Rattle.gd_lexis.specs.Lexes.{Lexes}
-use Rattle.gd_lexis.proofs.Lists.{same_chars, not_empty}
+use Rattle.gd_lexis.proofs.Lists.{same_chars}
 use Rattle.gd_lexis.proofs.Readings.{one_reading}
 use Rattle.gd_lexis.proofs.Tokens.{Begins, token_begins, one_kind, next}
 
@@ -87,7 +89,6 @@ glyph_not_empty g us e = cc
 ends_not_before : (d : ℕ) (ds us : List Glyph) → Ends us → us ≡ Char d ∷ ds → d ≢ 10 → ⊥
 ends_not_before d ds us (inl h) e other = glyph_not_empty (Char d) ds (sym e ∙ h)
 ends_not_before d ds us (inr h) e other = other (char_parts d 10 ds h.0 (sym e ∙ h.1)).0
-
 
 one_comment : (cs ds : List ℕ) (us vs : List Glyph) → All (λ c. c ≢ 10) cs → All (λ c. c ≢ 10) ds → Ends us → Ends vs → map Char cs ++ us ≡ map Char ds ++ vs → cs ≡ ds
 one_comment [] [] us vs h k l m e = refl

@@ -1,5 +1,5 @@
 -- A text writes at most one number.
-use Rattle.std.proofs.Common.{◌≡◌, ℕ, ◌+◌, ◌≤◌, ◌<◌, List, [], ◌∷◌, ◌++◌, refl, ap, sym, ◌∙◌, subst, inl, inr, arith, lit≤}
+use Rattle.std.proofs.Common.{◌≡◌, ℕ, ◌≤◌, ◌<◌, List, [], ◌∷◌, ◌++◌, ap, sym, ◌∙◌, subst, inl, inr, arith, lit≤}
 use Rattle.std.specs.Prelude.{◌⊎◌, codes}
 use Rattle.std.specs.Char.{digit_value}
 use Rattle.std.specs.Int.{IsInRange}
@@ -30,11 +30,11 @@ one_digits base low (c ∷ []) ds es h k = h.1 ∙ sym k.1
 one_digits base low (c ∷ d ∷ []) ds es h k = h.2 ∙ sym k.2
 one_digits base low (c ∷ d ∷ e ∷ cs) ds es h k =
     let more : h.1.0 ≡ k.1.0 = chosen
-            (λ a b. one_digits base low (d ∷ e ∷ cs) h.1.0 k.1.0 a b)
-            (λ a b. absurd (no_digit base d low b.0 (first_digit base d (e ∷ cs) h.1.0 a)))
-            (λ a b. absurd (no_digit base d low a.0 (first_digit base d (e ∷ cs) k.1.0 b)))
-            (λ a b. one_digits base low (e ∷ cs) h.1.0 k.1.0 a.1 b.1)
-            h.1.2 k.1.2 in
+    (λ a b. one_digits base low (d ∷ e ∷ cs) h.1.0 k.1.0 a b)
+    (λ a b. absurd (no_digit base d low b.0 (first_digit base d (e ∷ cs) h.1.0 a)))
+    (λ a b. absurd (no_digit base d low a.0 (first_digit base d (e ∷ cs) k.1.0 b)))
+    (λ a b. one_digits base low (e ∷ cs) h.1.0 k.1.0 a.1 b.1)
+    h.1.2 k.1.2 in
     h.1.1 ∙ ap (λ t. digit_value c ∷ t) more ∙ sym k.1.1
 
 one_in : (base : ℕ) → base ≤ 16 → (prefix text : List ℕ) (m n : ℕ) → WritesIn base prefix text m → WritesIn base prefix text n → m ≡ n

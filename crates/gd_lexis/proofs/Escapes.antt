@@ -1,6 +1,6 @@
 -- Escapes are told apart by what they begin with.
-use Rattle.std.proofs.Common.{◌≡◌, ◌≢◌, ℕ, ◌+◌, ◌*◌, ◌<◌, List, [], ◌∷◌, ◌++◌, length, refl, ap, sym, ◌∙◌, subst, inl, inr, arith, append_assoc}
-use Rattle.std.specs.Prelude.{◌⊎◌, Option, Some, None, fold}
+use Rattle.std.proofs.Common.{◌≡◌, ◌≢◌, ℕ, ◌+◌, ◌*◌, ◌<◌, List, [], ◌∷◌, ◌++◌, refl, ap, sym, ◌∙◌, subst, inl, inr, arith, append_assoc}
+use Rattle.std.specs.Prelude.{◌⊎◌, Some, None, fold}
 use Rattle.std.specs.Char.{IsScalar, digit_value}
 use lib.Utf8.{scalar_cases}
 use Rattle.gd_lexis.specs.Strings.{WritesCode, IsEscape, simple}

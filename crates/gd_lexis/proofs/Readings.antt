@@ -3,7 +3,9 @@ use Rattle.std.proofs.Common.{◌≡◌, ℕ, ◌+◌, ◌≤◌, List, [], ◌�
 use Rattle.std.specs.Char.{IsScalar, len_utf8}
 use Rattle.std.specs.Prelude.{encode_utf8}
 use Rattle.std.proofs.lemmas.Str.{encode_same, length-encode, len_utf8_bounds}
-use Rattle.gd_lexis.specs.Chars.{Glyph, Char, Bad, Reads}
+use Rattle.gd_lexis.specs.declared.glyph.Glyph.{Glyph}
+use Rattle.gd_lexis.specs.declared.glyph.Glyph.TheVariants.{Char, Bad}
+use Rattle.gd_lexis.specs.Chars.{Reads}
 
 longer : (c : ℕ) (rest : List ℕ) → 1 ≤ length (encode_utf8 c ++ rest)
 longer c rest = omega (arith, length-append (encode_utf8 c) rest, length-encode c, len_utf8_bounds c)

@@ -1,5 +1,5 @@
 -- With what each kind of token begins, and that a text writes a token of one kind.
-use Rattle.std.proofs.Common.{◌≡◌, ◌≢◌, ℕ, ◌+◌, ◌<◌, ◌≤◌, Bool, true, false, ◌&&◌, ◌||◌, ◌==◌, List, [], ◌∷◌, ◌++◌, length, refl, ap, sym, ◌∙◌, subst, inl, inr, arith, true≢false, pos}
+use Rattle.std.proofs.Common.{◌≡◌, ◌≢◌, ℕ, ◌<◌, ◌≤◌, Bool, true, false, ◌&&◌, ◌||◌, ◌==◌, List, [], ◌∷◌, ◌++◌, refl, ap, sym, ◌∙◌, subst, inl, inr, arith, true≢false, pos}
 use Rattle.std.specs.Prelude.{◌⊎◌, IsTrue, All}
 use Rattle.std.specs.Int.{IsInRange, is_in_range}
 use Rattle.std.specs.Char.{is_ascii_alphabetic}
@@ -14,12 +14,11 @@ use Rattle.gd_syntax.specs.declared.token.Keyword.TheVariants as keywords
 use Rattle.gd_syntax.specs.declared.token.Mark.{Mark}
 use Rattle.gd_syntax.specs.declared.token.Mark.TheVariants as marks
 use Rattle.gd_lexis.specs.Words.{IsName, GoesOn, keyword_text, mark_text}
-use Rattle.gd_lexis.specs.Strings.{WritesString}
 use Rattle.gd_lexis.specs.Pieces.{Writes}
 use Rattle.gd_lexis.proofs.Lists.{cons_parts}
 use Rattle.gd_lexis.proofs.Texts.{one_keyword, one_mark}
 use Rattle.gd_lexis.proofs.Digits.{one_number, number_first}
-use Rattle.gd_lexis.proofs.Bodies.{Written, single, triple, written, opened, IsMark, one_string}
+use Rattle.gd_lexis.proofs.Bodies.{Written, single, triple, written, one_string}
 
 -- the character behind the first one, or 0
 abbrev pub next : List ℕ → ℕ

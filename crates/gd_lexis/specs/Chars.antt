@@ -4,11 +4,9 @@ use Rattle.std.specs.List.{prefix_len}
 use Rattle.std.specs.Char.{IsScalar}
 use Rattle.std.specs.Str.{StartsWithNoChar}
 use Rattle.gd_syntax.specs.declared.pos.Pos.{Pos}
-
 -- a well-formed character, or a byte that is part of none
-pub data Glyph : Type 0 where
-  Char : ℕ → Glyph
-  Bad : ℕ → Glyph
+use Rattle.gd_lexis.specs.declared.glyph.Glyph.{Glyph}
+use Rattle.gd_lexis.specs.declared.glyph.Glyph.TheVariants.{Char, Bad}
 
 -- The bytes read as these glyphs, in order. A byte at which no well-formed character begins stands for itself.
 abbrev pub Reads : List ℕ → List Glyph → Type 0

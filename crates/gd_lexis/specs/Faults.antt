@@ -7,7 +7,9 @@ use Rattle.gd_syntax.specs.declared.token.TokenKind.{TokenKind}
 use Rattle.gd_syntax.specs.declared.token.Mark.{Mark}
 use Rattle.gd_model.specs.declared.rule.Rule.{Rule}
 use Rattle.gd_model.specs.declared.rule.Rule.TheVariants as rules
-use Rattle.gd_lexis.specs.Chars.{Glyph, Char, Bad, IsFile, place_behind}
+use Rattle.gd_lexis.specs.declared.glyph.Glyph.{Glyph}
+use Rattle.gd_lexis.specs.declared.glyph.Glyph.TheVariants.{Char, Bad}
+use Rattle.gd_lexis.specs.Chars.{IsFile, place_behind}
 use Rattle.gd_lexis.specs.Words.{IsFloatName, IsName, GoesOn, mark_text}
 use Rattle.gd_lexis.specs.Numbers.{WritesNumber, WritesDecimal, IsDigit}
 use Rattle.gd_lexis.specs.Strings.{Quote, IsQuote, opening, closing, IsEscape}
@@ -28,20 +30,22 @@ pub data HasToken : List Glyph → Type 0 where
   over : (g : Glyph) (gs : List Glyph) → g ≢ Char 10 → g ≢ Char 35 → HasToken gs → HasToken (g ∷ gs)
   joined : (end : List ℕ) (gs : List Glyph) → IsLineEnd end → HasToken gs → HasToken (map Char (92 ∷ end) ++ gs)
 
--- the glyphs between the ends of a string: a backslash takes the glyph behind it along, and elsewhere no end stands
+-- The glyphs between the ends of a string: glyphs that stand for themselves, whole escapes, and backslashes at which none
+-- begins, each with the glyph behind it. No end stands at any of these.
 pub data Inside (q : Quote) (rest : List Glyph) : List Glyph → Type 0 where
   nothing : Inside q rest []
   plain : (g : Glyph) (gs : List Glyph) → g ≢ Char 92 → (BeginsWith (closing q) (g ∷ gs ++ rest) → ⊥) → Inside q rest gs → Inside q rest (g ∷ gs)
-  taken : (g : Glyph) (gs : List Glyph) → Inside q rest gs → Inside q rest (Char 92 ∷ g ∷ gs)
+  escaped : (e s : List ℕ) (gs : List Glyph) → q.is_raw ≡ false → IsEscape e s → Inside q rest gs → Inside q rest (map Char e ++ gs)
+  taken : (g : Glyph) (gs : List Glyph) → (q.is_raw ≡ false → (e s : List ℕ) → IsEscape e s → BeginsWith e (Char 92 ∷ g ∷ gs ++ rest) → ⊥) → Inside q rest gs
+      → Inside q rest (Char 92 ∷ g ∷ gs)
 
 -- a string of this kind begins here: three quotes always open one of three
 abbrev pub Opens : Quote → List Glyph → Type 0
 Opens q gs = IsQuote q × BeginsWith (opening q) gs × (q.count ≡ 1 → BeginsWith (opening (record { is_raw = q.is_raw; mark = q.mark; count = 3 })) gs → ⊥)
 
--- a string of this kind begins here, with this between its ends, and ends
-abbrev pub IsWhole : Quote → List Glyph → List Glyph → Type 0
-IsWhole q body gs =
-    Opens q gs × ((rest : List Glyph) × (gs ≡ map Char (opening q) ++ body ++ map Char (closing q) ++ rest) × Inside q (map Char (closing q) ++ rest) body)
+-- a string of this kind begins here, with this between its ends, and this behind it
+abbrev pub IsWhole : Quote → List Glyph → List Glyph → List Glyph → Type 0
+IsWhole q body rest gs = Opens q gs × (gs ≡ map Char (opening q) ++ (body ++ (map Char (closing q) ++ rest))) × Inside q (map Char (closing q) ++ rest) body
 
 -- a number begins here: the longest, with this value
 abbrev pub IsNumber : List ℕ → ℕ → List Glyph → Type 0
@@ -84,16 +88,16 @@ IsCounted before gs n =
 abbrev pub Breaks : Rule → List Piece → List Glyph → List Glyph → Type 0
 Breaks rules.NotUtf8 before gs ahead =
     (b : ℕ) × (more : List Glyph) × (gs ≡ ahead ++ Bad b ∷ more)
-    × ((ahead ≡ []) ⊎ (IsInComment ahead ⊎ ((q : Quote) × (body : List Glyph) × (front : List Glyph) × IsWhole q body gs × (ahead ≡ map Char (opening q) ++ front) × (length ahead < length (opening q) + length body))))
+    × ((ahead ≡ []) ⊎ (IsInComment ahead ⊎ ((q : Quote) × (body : List Glyph) × (rest : List Glyph) × (front : List Glyph) × IsWhole q body rest gs × (ahead ≡ map Char (opening q) ++ front) × (length ahead < length (opening q) + length body))))
 Breaks rules.MixedIndentation before gs ahead =
     (ahead ≡ []) × (is_logical (line before) ≡ false) × HasToken gs
     × ((IsIndentedBy 32 before × BeginsWith (9 ∷ []) gs) ⊎ (IsIndentedBy 9 before × BeginsWith (32 ∷ []) gs))
 Breaks rules.UnmatchedDedent before gs ahead = (ahead ≡ []) × IsFirst before gs × (IsMatched (blocks before) (depth (line before)) → ⊥)
-Breaks rules.UnterminatedString before gs ahead = (ahead ≡ []) × ((q : Quote) × Opens q gs × ((body : List Glyph) → IsWhole q body gs → ⊥))
+Breaks rules.UnterminatedString before gs ahead = (ahead ≡ []) × ((q : Quote) × Opens q gs × ((body : List Glyph) (rest : List Glyph) → IsWhole q body rest gs → ⊥))
 Breaks rules.BadEscape before gs ahead =
-    (q : Quote) × (body : List Glyph) × (front : List Glyph) × (back : List Glyph) × IsWhole q body gs × (q.is_raw ≡ false)
-    × (ahead ≡ map Char (opening q) ++ front) × (body ≡ front ++ Char 92 ∷ back) × Inside q (Char 92 ∷ back) front
-    × ((e : List ℕ) (s : List ℕ) → IsEscape e s → BeginsWith e (Char 92 ∷ back) → ⊥)
+    (q : Quote) × (body : List Glyph) × (rest : List Glyph) × (front : List Glyph) × (back : List Glyph) × IsWhole q body rest gs × (q.is_raw ≡ false)
+    × (ahead ≡ map Char (opening q) ++ front) × (body ++ (map Char (closing q) ++ rest) ≡ front ++ Char 92 ∷ back) × Inside q (Char 92 ∷ back) front
+    × (length front < length body) × ((e : List ℕ) (s : List ℕ) → IsEscape e s → BeginsWith e (Char 92 ∷ back) → ⊥)
 Breaks rules.StrayCharacter before gs ahead =
     ((ahead ≡ []) × IsStray gs)
     ⊎ (IsInComment ahead × ((more : List Glyph) × (gs ≡ ahead ++ Char 13 ∷ more) × (BeginsWith (10 ∷ []) more → ⊥)))

@@ -1,7 +1,8 @@
 -- The tokens of a file.
 use Rattle.std.specs.Prelude.{◌≡◌, ℕ, ◌≤◌, ◌⊎◌, true, List, [], ◌∷◌, ◌++◌, length, All}
 use Rattle.gd_syntax.specs.declared.token.Token.{Token}
-use Rattle.gd_lexis.specs.Chars.{Glyph, IsFile}
+use Rattle.gd_lexis.specs.declared.glyph.Glyph.{Glyph}
+use Rattle.gd_lexis.specs.Chars.{IsFile}
 use Rattle.gd_lexis.specs.Pieces.{Piece, Blank, IsCut}
 use Rattle.gd_lexis.specs.Lines.{lines_of, laid, level, depth, is_logical, is_indentation, open_blocks, kept, innermost, lead}
 use Rattle.gd_lexis.specs.Items.{items}

@@ -7,7 +7,9 @@ use Rattle.gd_syntax.specs.declared.token.TokenKind.{TokenKind}
 use Rattle.gd_syntax.specs.declared.token.TokenKind.TheVariants as kinds
 use Rattle.gd_syntax.specs.declared.token.Mark.{Mark}
 use Rattle.gd_syntax.specs.declared.token.Mark.TheVariants.{LeftParen, RightParen, LeftBracket, RightBracket, LeftBrace, RightBrace}
-use Rattle.gd_lexis.specs.Chars.{Glyph, Char, place_behind}
+use Rattle.gd_lexis.specs.declared.glyph.Glyph.{Glyph}
+use Rattle.gd_lexis.specs.declared.glyph.Glyph.TheVariants.{Char}
+use Rattle.gd_lexis.specs.Chars.{place_behind}
 use Rattle.gd_lexis.specs.Pieces.{Piece, Blank, LineFeed, Join, Comment, Tok, text_of}
 
 abbrev pub is_token : Piece → Bool

@@ -2,10 +2,11 @@
 //! specs/, and the functions here are laws about them.
 #![tactic(auto)]
 
-ghost use Rattle.std.specs.Prelude.{◌≡◌, List, ℕ, ◌++◌};
+ghost use Rattle.std.specs.Prelude.{◌≡◌, List, ℕ};
 ghost use Rattle.gd_syntax.specs.declared.token.Keyword.{Keyword};
 ghost use Rattle.gd_syntax.specs.declared.token.Mark.{Mark};
-ghost use Rattle.gd_lexis.specs.Chars.{Glyph, Reads};
+ghost use Rattle.gd_lexis.specs.declared.glyph.Glyph.{Glyph};
+ghost use Rattle.gd_lexis.specs.Chars.{Reads};
 ghost use Rattle.gd_syntax.specs.declared.pos.Pos.{Pos};
 ghost use Rattle.gd_model.specs.declared.rule.Rule.{Rule};
 ghost use Rattle.gd_lexis.specs.Words.{keyword_text, mark_text};
@@ -16,6 +17,10 @@ ghost use Rattle.gd_lexis.specs.Pieces.{Writes};
 ghost use Rattle.gd_syntax.specs.declared.token.Token.{Token};
 ghost use Rattle.gd_lexis.specs.Lexes.{Lexes};
 ghost use Rattle.gd_lexis.specs.Faults.{FirstFault, number};
+
+mod glyph;
+
+pub use glyph::Glyph;
 
 /// Bytes are read as glyphs in at most one way.
 #[tactic(auto, using(crate::proofs::Readings::one_reading))]
