@@ -42,23 +42,23 @@ no_gap kind text us vs c h e g =
     let P : ℕ → Type 0 = λ x. Begins kind x (next b.1) in
     begins_no_gap kind c (next b.1) (subst P heads.0 b.3) g
 
-blank_code : (c : ℕ) (us : List Glyph) → Stands (Blank c) us → (c ≡ 32) ⊎ ((c ≡ 9) ⊎ (c ≡ 13))
+pub blank_code : (c : ℕ) (us : List Glyph) → Stands (Blank c) us → (c ≡ 32) ⊎ ((c ≡ 9) ⊎ (c ≡ 13))
 blank_code c us (inl e) = inl e
 blank_code c us (inr (inl e)) = inr (inl e)
 blank_code c us (inr (inr h)) = inr (inr h.0)
 
-blank_gap : (c : ℕ) → (c ≡ 32) ⊎ ((c ≡ 9) ⊎ (c ≡ 13)) → IsGap c
+pub blank_gap : (c : ℕ) → (c ≡ 32) ⊎ ((c ≡ 9) ⊎ (c ≡ 13)) → IsGap c
 blank_gap c (inl e) = inl e
 blank_gap c (inr (inl e)) = inr (inl e)
 blank_gap c (inr (inr e)) = inr (inr (inl e))
 
-line_feed_gap : IsGap 10
+pub line_feed_gap : IsGap 10
 line_feed_gap = inr (inr (inr (inl refl)))
 
-comment_gap : IsGap 35
+pub comment_gap : IsGap 35
 comment_gap = inr (inr (inr (inr (inl refl))))
 
-join_gap : IsGap 92
+pub join_gap : IsGap 92
 join_gap = inr (inr (inr (inr (inr refl))))
 
 -- a piece has a first character
@@ -71,7 +71,7 @@ piece_begins (Tok kind text) us h = let b = token_begins kind text h.0 in (b.0, 
 
 -- ---- two pieces with which one rest of a file begins are one
 
-one_end : (end other : List ℕ) (us vs : List Glyph) → IsLineEnd end → IsLineEnd other → map Char end ++ us ≡ map Char other ++ vs → end ≡ other
+pub one_end : (end other : List ℕ) (us vs : List Glyph) → IsLineEnd end → IsLineEnd other → map Char end ++ us ≡ map Char other ++ vs → end ≡ other
 one_end end other us vs (inl h) (inl k) e = h ∙ sym k
 one_end end other us vs (inl h) (inr k) e =
     let heads = char_parts 10 13 us (Char 10 ∷ vs) (ap (λ t. map Char t ++ us) (sym h) ∙ e ∙ ap (λ t. map Char t ++ vs) k) in absurd (omega (arith, heads.0))
@@ -83,14 +83,14 @@ one_end end other us vs (inr h) (inr k) e = h ∙ sym k
 abbrev pub Ends : List Glyph → Type 0
 Ends us = (us ≡ []) ⊎ BeginsWith (10 ∷ []) us
 
-glyph_not_empty : (g : Glyph) (us : List Glyph) → g ∷ us ≡ [] → ⊥
+pub glyph_not_empty : (g : Glyph) (us : List Glyph) → g ∷ us ≡ [] → ⊥
 glyph_not_empty g us e = cc
 
 ends_not_before : (d : ℕ) (ds us : List Glyph) → Ends us → us ≡ Char d ∷ ds → d ≢ 10 → ⊥
 ends_not_before d ds us (inl h) e other = glyph_not_empty (Char d) ds (sym e ∙ h)
 ends_not_before d ds us (inr h) e other = other (char_parts d 10 ds h.0 (sym e ∙ h.1)).0
 
-one_comment : (cs ds : List ℕ) (us vs : List Glyph) → All (λ c. c ≢ 10) cs → All (λ c. c ≢ 10) ds → Ends us → Ends vs → map Char cs ++ us ≡ map Char ds ++ vs → cs ≡ ds
+pub one_comment : (cs ds : List ℕ) (us vs : List Glyph) → All (λ c. c ≢ 10) cs → All (λ c. c ≢ 10) ds → Ends us → Ends vs → map Char cs ++ us ≡ map Char ds ++ vs → cs ≡ ds
 one_comment [] [] us vs h k l m e = refl
 one_comment [] (d ∷ ds) us vs h k l m e = absurd (ends_not_before d (map Char ds ++ vs) us l e (All-head (λ c. c ≢ 10) d ds k))
 one_comment (c ∷ cs) [] us vs h k l m e = absurd (ends_not_before c (map Char cs ++ us) vs m (sym e) (All-head (λ c. c ≢ 10) c cs h))
@@ -100,7 +100,7 @@ one_comment (c ∷ cs) (d ∷ ds) us vs h k l m e =
     let tail : cs ≡ ds = one_comment cs ds us vs (All-tail (λ c. c ≢ 10) c cs h) (All-tail (λ c. c ≢ 10) d ds k) l m parts.1 in
     cc
 
-one_token : (k l : TokenKind) (text other : List ℕ) (us vs : List Glyph) → Writes k text → Writes l other → IsLongest text (map Char text ++ us)
+pub one_token : (k l : TokenKind) (text other : List ℕ) (us vs : List Glyph) → Writes k text → Writes l other → IsLongest text (map Char text ++ us)
     → IsLongest other (map Char other ++ vs) → map Char text ++ us ≡ map Char other ++ vs
     → (length text ≡ length other) ⊎ ((length text < length other) ⊎ (length other < length text)) → Tok k text ≡ Tok l other
 one_token k l text other us vs h i longest longest' e (inl same) =

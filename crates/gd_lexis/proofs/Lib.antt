@@ -7,3 +7,8 @@ pub mod Escapes
 pub mod Bodies
 pub mod Tokens
 pub mod Cuts
+pub mod Heads
+pub mod Numerals
+pub mod Bounds
+pub mod Levels
+pub mod Indents

@@ -46,7 +46,7 @@ Begins (kinds.Quoted t) c d = BeginsString c d
 Begins (kinds.Mark m) c d = BeginsMark c
 Begins _ c d = ⊥
 
-range_from : (low high c : ℕ) → is_in_range low high c ≡ true → IsInRange low high c
+pub range_from : (low high c : ℕ) → is_in_range low high c ≡ true → IsInRange low high c
 range_from low high c h = (leb-true low c (and_parts _ _ h).0, leb-true c high (and_parts _ _ h).1)
 
 -- ---- names
@@ -54,7 +54,7 @@ range_from low high c h = (leb-true low c (and_parts _ _ h).0, leb-true c high (
 letter_from : (c : ℕ) → (is_ascii_alphabetic c || (c == 95)) ≡ true → IsLetter c
 letter_from c h = elim (or_cases (is_ascii_alphabetic c) (c == 95) h) [ inl a ↦ elim (or_cases (is_in_range 65 90 c) (is_in_range 97 122 c) a) [ inl b ↦ inl (range_from 65 90 c b) | inr b ↦ inr (inl (range_from 97 122 c b)) ] | inr a ↦ inr (inr (inl (eqb-true c 95 a))) ]
 
-name_letter : (c : ℕ) → IsTrue (is_xid_start c || (c == 95)) → (c < 128) ⊎ (128 ≤ c) → IsLetter c
+pub name_letter : (c : ℕ) → IsTrue (is_xid_start c || (c == 95)) → (c < 128) ⊎ (128 ≤ c) → IsLetter c
 name_letter c h (inl low) = letter_from c (ap (λ b. b || (c == 95)) (sym (is_xid_start-ascii c low)) ∙ h)
 name_letter c h (inr high) = inr (inr (inr high))
 
@@ -72,11 +72,11 @@ name_begins (c ∷ cs) h = (c, cs, refl, (name_letter c h.0 (cases_lt c 128), ne
 
 -- ---- keywords and marks
 
-abbrev two_letters : List ℕ → Bool
+abbrev pub two_letters : List ℕ → Bool
 two_letters (c ∷ d ∷ cs) = is_in_range 97 122 c && is_in_range 97 122 d
 two_letters _ = false
 
-keyword_letters : (k : Keyword) → two_letters (keyword_text k) ≡ true
+pub keyword_letters : (k : Keyword) → two_letters (keyword_text k) ≡ true
 keyword_letters keywords.If = refl
 keyword_letters keywords.Elif = refl
 keyword_letters keywords.Else = refl
@@ -115,7 +115,7 @@ keyword_letters keywords.True = refl
 keyword_letters keywords.False = refl
 keyword_letters keywords.Null = refl
 
-letters_begin : (text : List ℕ) → two_letters text ≡ true → (c : ℕ) × (more : List ℕ) × (text ≡ c ∷ more) × BeginsName c (next more)
+pub letters_begin : (text : List ℕ) → two_letters text ≡ true → (c : ℕ) × (more : List ℕ) × (text ≡ c ∷ more) × BeginsName c (next more)
 letters_begin [] h = absurd (true≢false (sym h))
 letters_begin (c ∷ []) h = absurd (true≢false (sym h))
 letters_begin (c ∷ d ∷ cs) h =
@@ -123,11 +123,11 @@ letters_begin (c ∷ d ∷ cs) h =
     let second : IsInRange 97 122 d = range_from 97 122 d both.1 in
     (c, d ∷ cs, refl, (inr (inl (range_from 97 122 c both.0)), omega arith, omega arith))
 
-abbrev is_mark_front : List ℕ → Bool
+abbrev pub is_mark_front : List ℕ → Bool
 is_mark_front [] = false
 is_mark_front (c ∷ cs) = is_in_range 33 33 c || (is_in_range 36 38 c || (is_in_range 40 47 c || (is_in_range 58 64 c || (is_in_range 91 91 c || (is_in_range 93 94 c || is_in_range 123 126 c)))))
 
-mark_front : (m : Mark) → is_mark_front (mark_text m) ≡ true
+pub mark_front : (m : Mark) → is_mark_front (mark_text m) ≡ true
 mark_front marks.Plus = refl
 mark_front marks.Minus = refl
 mark_front marks.Star = refl
@@ -179,7 +179,7 @@ mark_front marks.Dollar = refl
 or_range : (low high c : ℕ) (b : Bool) (P : Type 0) → (b ≡ true → P) → (is_in_range low high c || b) ≡ true → IsInRange low high c ⊎ P
 or_range low high c b P f h = elim (or_cases (is_in_range low high c) b h) [ inl a ↦ inl (range_from low high c a) | inr a ↦ inr (f a) ]
 
-mark_from : (text : List ℕ) → is_mark_front text ≡ true → (c : ℕ) × (more : List ℕ) × (text ≡ c ∷ more) × BeginsMark c
+pub mark_from : (text : List ℕ) → is_mark_front text ≡ true → (c : ℕ) × (more : List ℕ) × (text ≡ c ∷ more) × BeginsMark c
 mark_from [] h = absurd (true≢false (sym h))
 mark_from (c ∷ cs) h =
     (c, cs, refl, or_range 33 33 c _ _ (or_range 36 38 c _ _ (or_range 40 47 c _ _ (or_range 58 64 c _ _ (or_range 91 91 c _ _ (or_range 93 94 c _ _ (range_from 123 126 c)))))) h)

@@ -16,7 +16,7 @@ ghost use Rattle.gd_syntax.specs.declared.token.TokenKind.{TokenKind};
 ghost use Rattle.gd_lexis.specs.Pieces.{Writes};
 ghost use Rattle.gd_syntax.specs.declared.token.Token.{Token};
 ghost use Rattle.gd_lexis.specs.Lexes.{Lexes};
-ghost use Rattle.gd_lexis.specs.Faults.{FirstFault, number};
+ghost use Rattle.gd_lexis.specs.Faults.{FirstFault, IsBroken, number};
 
 mod glyph;
 
@@ -64,4 +64,9 @@ pub fn one_kind()
 /// A file has at most one list of tokens.
 pub fn one_token_list()
     ensures { (file : ℕ) (bytes : List ℕ) (tokens : List Token) (others : List Token) → Lexes file bytes tokens → Lexes file bytes others → tokens ≡ others }
+{}
+
+/// A file with tokens breaks no rule.
+pub fn no_fault_beside_tokens()
+    ensures { (file : ℕ) (bytes : List ℕ) (tokens : List Token) (rule : Rule) (at : Pos) → Lexes file bytes tokens → IsBroken file bytes rule at → ⊥ }
 {}
