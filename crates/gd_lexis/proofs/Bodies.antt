@@ -28,7 +28,7 @@ parts_of q (escape e s cs t h k b) = first e s cs t refl refl (an_escape e s h k
 parts_of q (kept c cs t h k b) = first (92 ∷ c ∷ []) (92 ∷ c ∷ []) cs t refl refl (a_kept c h k) b
 parts_of q (kept_line_end cs t h b) = first (92 ∷ 13 ∷ 10 ∷ []) (92 ∷ 10 ∷ []) cs t refl refl (a_kept_line_end h) b
 
-not_both : (b : Bool) → b ≡ true → b ≡ false → ⊥
+pub not_both : (b : Bool) → b ≡ true → b ≡ false → ⊥
 not_both b h k = true≢false (sym h ∙ k)
 
 pub part_begins : (q : Quote) (rest front s : List ℕ) → Part q rest front s → (c : ℕ) × (more : List ℕ) × (front ≡ c ∷ more)
@@ -39,7 +39,7 @@ part_begins q rest front s (a_kept c h k) = (92, c ∷ [], refl)
 part_begins q rest front s (a_kept_line_end h) = (92, 13 ∷ 10 ∷ [], refl)
 
 -- a part that is no plain one and no line end begins with a backslash
-slash_head : (e s us vs : List ℕ) (c : ℕ) → IsEscape e s → c ∷ us ≡ e ++ vs → c ≡ 92
+pub slash_head : (e s us vs : List ℕ) (c : ℕ) → IsEscape e s → c ∷ us ≡ e ++ vs → c ≡ 92
 slash_head e s us vs c h g = let m = meant e s h in (cons_parts c 92 us (m.0 ∷ m.1 ++ vs) (g ∙ ap (λ r. r ++ vs) m.2)).0
 
 crlf : (c : ℕ) (us vs : List ℕ) → c ∷ us ≡ 13 ∷ 10 ∷ vs → begins_line_end (c ∷ us) ≡ false → ⊥
@@ -163,7 +163,7 @@ at_mark raw m n rest front s cs marks e h (an_escape f u r i) = let c = slash_he
 at_mark raw m n rest front s cs marks e h (a_kept d r l) = let c = (cons_parts n 92 cs (d ∷ rest) h).0 in omega arith
 at_mark raw m n rest front s cs marks e h (a_kept_line_end r) = let c = (cons_parts n 92 cs (13 ∷ 10 ∷ rest) h).0 in omega arith
 
-no_mark : (raw : Bool) (m n : ℕ) (cs t : List ℕ) → IsMark m → n ≡ m → Parted (one raw m) (n ∷ cs) t → ⊥
+pub no_mark : (raw : Bool) (m n : ℕ) (cs t : List ℕ) → IsMark m → n ≡ m → Parted (one raw m) (n ∷ cs) t → ⊥
 no_mark raw m n cs t marks e (none h k) = not_empty n cs h
 no_mark raw m n cs t marks e (first front s rest u h k p b) = at_mark raw m n rest front s cs marks e h p
 

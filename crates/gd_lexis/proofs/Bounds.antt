@@ -1,5 +1,5 @@
 -- Where what is left is cut to its end, and the lines keep their bounds, no rule on brackets and items is broken.
-use Rattle.std.proofs.Common.{◌≡◌, ◌≢◌, ℕ, ◌+◌, ◌<◌, ◌≤◌, Bool, false, true, not, ◌==◌, ◌||◌, ◌&&◌, List, [], ◌∷◌, ◌++◌, length, map, fold, refl, ap, sym, ◌∙◌, subst, inl, inr, arith, true≢false, append_assoc, append-nil, if◌then◌else◌, slice_index, ◌-◌}
+use Rattle.std.proofs.Common.{◌≡◌, ℕ, ◌+◌, ◌≤◌, Bool, false, true, ◌==◌, ◌||◌, ◌&&◌, List, [], ◌∷◌, ◌++◌, map, fold, refl, ap, sym, ◌∙◌, subst, inl, inr, arith, true≢false, append_assoc, append-nil, if◌then◌else◌, slice_index, ◌-◌}
 use Rattle.std.specs.Prelude.{◌⊎◌, All}
 use Rattle.std.specs.Int.{IsInRange}
 use Rattle.std.proofs.lemmas.Bool.{or_cases, eqb-true}
@@ -13,13 +13,12 @@ use Rattle.gd_model.specs.declared.rule.Rule.TheVariants as rules
 use Rattle.gd_lexis.specs.declared.glyph.Glyph.{Glyph}
 use Rattle.gd_lexis.specs.declared.glyph.Glyph.TheVariants.{Char}
 use Rattle.gd_lexis.specs.Words.{mark_text}
-use Rattle.gd_lexis.specs.Pieces.{Piece, Blank, LineFeed, Join, Comment, Tok, Writes, BeginsWith, IsLongest, IsCut}
+use Rattle.gd_lexis.specs.Pieces.{Piece, Tok, Writes, BeginsWith, IsLongest, IsCut}
 use Rattle.gd_lexis.specs.Lines.{Parted, parted, parted_behind, lines_of, is_line_end, level, level_behind, is_opening, is_closing}
 use Rattle.gd_lexis.specs.Items.{items, items_behind, items_behind_mark, is_separator, counted, closed, ended}
 use Rattle.gd_lexis.specs.Lexes.{IsWithin}
-use Rattle.gd_lexis.specs.Faults.{Breaks, IsCounted, BeginsToken}
-use Rattle.gd_lexis.proofs.Lists.{not_empty, cons_parts}
-use Rattle.gd_lexis.proofs.Tokens.{Begins, BeginsName, BeginsString, BeginsMark, token_begins}
+use Rattle.gd_lexis.specs.Faults.{Breaks, IsCounted}
+use Rattle.gd_lexis.proofs.Tokens.{BeginsName, BeginsString, token_begins}
 use Rattle.gd_lexis.proofs.Cuts.{IsGap, char_parts}
 use Rattle.gd_lexis.proofs.Heads.{TokenFront, token_front, token_front_of, Next, next_piece, token_next, token_code, token_code_no_gap, begins_at}
 
@@ -154,9 +153,10 @@ abbrev IsOpeningCode : ℕ → Type 0
 IsOpeningCode c = ((c ≡ 40) ⊎ (c ≡ 91)) ⊎ (c ≡ 123)
 
 code_from : (c : ℕ) → (((c == 40) || (c == 91)) || (c == 123)) ≡ true → IsOpeningCode c
-code_from c h = elim (or_cases ((c == 40) || (c == 91)) (c == 123) h)
-    [ inl a ↦ elim (or_cases (c == 40) (c == 91) a) [ inl b ↦ inl (inl (eqb-true c 40 b)) | inr b ↦ inl (inr (eqb-true c 91 b)) ]
-    | inr a ↦ inr (eqb-true c 123 a) ]
+code_from c h = elim (or_cases ((c == 40) || (c == 91)) (c == 123) h) [
+  | inl a ↦ elim (or_cases (c == 40) (c == 91) a) [ inl b ↦ inl (inl (eqb-true c 40 b)) | inr b ↦ inl (inr (eqb-true c 91 b)) ]
+  | inr a ↦ inr (eqb-true c 123 a)
+]
 
 opening_code : (text : List ℕ) → opens_front text ≡ true → (c : ℕ) × (more : List ℕ) × (text ≡ c ∷ more) × IsOpeningCode c
 opening_code [] h = absurd (true≢false (sym h))

@@ -1,7 +1,7 @@
 -- What stands where a file goes on that is cut to its end.
-use Rattle.std.proofs.Common.{◌≡◌, ◌≢◌, ℕ, ◌+◌, ◌<◌, Bool, false, true, ◌==◌, ◌||◌, List, [], ◌∷◌, ◌++◌, length, map, refl, ap, sym, ◌∙◌, subst, inl, inr, arith, lit≤, true≢false}
-use Rattle.std.specs.Prelude.{◌⊎◌, All, IsTrue, nat_le}
-use Rattle.std.specs.Char.{digit_value, is_ascii_alphabetic}
+use Rattle.std.proofs.Common.{◌≡◌, ℕ, true, ◌==◌, ◌||◌, List, [], ◌∷◌, ◌++◌, length, map, refl, ap, sym, ◌∙◌, subst, inl, inr, arith, true≢false}
+use Rattle.std.specs.Prelude.{◌⊎◌, IsTrue, nat_le}
+use Rattle.std.specs.Char.{is_ascii_alphabetic}
 use Rattle.std.specs.Int.{IsInRange, is_in_range}
 use Rattle.std.proofs.lemmas.Bool.{cases_order, or_cases, or_left, or_right, eqb-true, cases_lt, and_from, and_parts, le-leb, eq-eqb}
 use Rattle.std.proofs.lemmas.Str.{digit_value_digit}
@@ -10,17 +10,16 @@ use Rattle.unicode_ident.specs.Ident.{is_xid_start}
 use Rattle.unicode_ident.proofs.IdentLemmas.{is_xid_start-ascii}
 use Rattle.gd_syntax.specs.declared.token.TokenKind.{TokenKind}
 use Rattle.gd_syntax.specs.declared.token.TokenKind.TheVariants as kinds
-use Rattle.gd_syntax.specs.declared.token.Keyword.{Keyword}
 use Rattle.gd_syntax.specs.declared.token.Mark.{Mark}
 use Rattle.gd_lexis.specs.declared.glyph.Glyph.{Glyph}
-use Rattle.gd_lexis.specs.declared.glyph.Glyph.TheVariants.{Char, Bad}
+use Rattle.gd_lexis.specs.declared.glyph.Glyph.TheVariants.{Char}
 use Rattle.gd_lexis.specs.Words.{IsName, keyword_text, mark_text}
 use Rattle.gd_lexis.specs.Numbers.{IsDigit}
 use Rattle.gd_lexis.specs.Pieces.{Piece, Blank, LineFeed, Join, Comment, Tok, text_of, Writes, BeginsWith, IsLongest, IsClear, Stands, IsCut}
 use Rattle.gd_lexis.specs.Faults.{BeginsToken}
-use Rattle.gd_lexis.proofs.Lists.{not_empty, cons_parts}
-use Rattle.gd_lexis.proofs.Tokens.{Begins, BeginsMark, BeginsString, IsLetter, token_begins, next, name_letter, mark_from, mark_front, keyword_letters, letters_begin, two_letters, range_from}
-use Rattle.gd_lexis.proofs.Cuts.{IsGap, char_parts, no_gap, blank_code, blank_gap, line_feed_gap, comment_gap, join_gap, glyph_not_empty, one_token, piece_begins}
+use Rattle.gd_lexis.proofs.Lists.{cons_parts}
+use Rattle.gd_lexis.proofs.Tokens.{Begins, BeginsMark, BeginsString, IsLetter, token_begins, next, name_letter, mark_from, mark_front, keyword_letters, two_letters, range_from}
+use Rattle.gd_lexis.proofs.Cuts.{IsGap, char_parts, no_gap, blank_code, blank_gap, line_feed_gap, comment_gap, join_gap, glyph_not_empty, one_token}
 
 -- the first piece of what is left
 pub data Front (gs : List Glyph) (ps : List Piece) : Type 0 where
@@ -89,9 +88,10 @@ token_code_no_gap c (inr (inr (inl h))) g = omega arith
 token_code_no_gap c (inr (inr (inr h))) g = omega arith
 
 word_code : (c : ℕ) → IsTrue (((is_xid_start c || (c == 95)) || (c == 34)) || (c == 39)) → IsTokenCode c
-word_code c h = elim (or_cases ((is_xid_start c || (c == 95)) || (c == 34)) (c == 39) h)
-    [ inl a ↦ elim (or_cases (is_xid_start c || (c == 95)) (c == 34) a) [ inl b ↦ inl (name_letter c b (cases_lt c 128)) | inr b ↦ inr (inl (inl (eqb-true c 34 b))) ]
-    | inr a ↦ inr (inl (inr (eqb-true c 39 a))) ]
+word_code c h = elim (or_cases ((is_xid_start c || (c == 95)) || (c == 34)) (c == 39) h) [
+  | inl a ↦ elim (or_cases (is_xid_start c || (c == 95)) (c == 34) a) [ inl b ↦ inl (name_letter c b (cases_lt c 128)) | inr b ↦ inr (inl (inl (eqb-true c 34 b))) ]
+  | inr a ↦ inr (inl (inr (eqb-true c 39 a)))
+]
 
 mark_code : (m : Mark) (c : ℕ) (more : List ℕ) → mark_text m ≡ c ∷ more → BeginsMark c
 mark_code m c more e =

@@ -1,19 +1,19 @@
 -- Where what is left is cut to its end, and the file is indented by one kind of blank, the rule on indentation is not broken.
-use Rattle.std.proofs.Common.{◌≡◌, ◌≢◌, ℕ, Bool, false, true, cond, ◌||◌, List, [], ◌∷◌, ◌++◌, map, filter, flat_map, refl, ap, sym, ◌∙◌, subst, inl, inr, arith, true≢false, append_assoc, append-nil}
+use Rattle.std.proofs.Common.{◌≡◌, ◌≢◌, ℕ, Bool, false, true, cond, List, [], ◌∷◌, ◌++◌, map, filter, flat_map, refl, ap, sym, ◌∙◌, subst, inl, inr, arith, append_assoc, append-nil}
 use Rattle.std.specs.Prelude.{◌⊎◌, All}
-use Rattle.std.proofs.lemmas.Bool.{or_parts, or_right, or_left}
+use Rattle.std.proofs.lemmas.Bool.{or_parts, or_right}
 use Rattle.std.proofs.lemmas.List.{append_cancel_left}
 use Rattle.std.proofs.lemmas.List.Elements.{All-head, All-tail, All-nil, All-cons, All-append}
 use Rattle.gd_model.specs.declared.rule.Rule.TheVariants as rules
 use Rattle.gd_lexis.specs.declared.glyph.Glyph.{Glyph}
 use Rattle.gd_lexis.specs.declared.glyph.Glyph.TheVariants.{Char}
-use Rattle.gd_lexis.specs.Pieces.{Piece, Blank, LineFeed, Join, Comment, Tok, text_of, BeginsWith, IsLineEnd, Stands, IsCut}
+use Rattle.gd_lexis.specs.Pieces.{Piece, Blank, LineFeed, Join, Comment, Tok, IsLineEnd, IsCut}
 use Rattle.gd_lexis.specs.Lines.{Parted, parted, lines_of, is_token, is_logical, lead, is_indentation}
 use Rattle.gd_lexis.specs.Lexes.{IndentBy}
-use Rattle.gd_lexis.specs.Faults.{Breaks, BeginsToken, HasToken, here, over, joined, indentation, IsIndentedBy}
+use Rattle.gd_lexis.specs.Faults.{Breaks, BeginsToken, HasToken, here, over, joined, IsIndentedBy}
 use Rattle.gd_lexis.proofs.Cuts.{IsGap, char_parts, no_gap, one_end, join_gap}
 use Rattle.gd_lexis.proofs.Heads.{Front, front, front_of, TokenFront, token_front, token_front_of, token_code, token_code_no_gap}
-use Rattle.gd_lexis.proofs.Bounds.{all_at, Grown, grows, lines_behind, lines_from, with_piece, piece_grown}
+use Rattle.gd_lexis.proofs.Bounds.{all_at, grows, lines_behind, lines_from, with_piece, piece_grown}
 use Rattle.gd_lexis.proofs.Levels.{lead_cons}
 
 -- ---- the line has a token from here on
@@ -170,7 +170,7 @@ same_blank c b o before ps all us space space' e cut token indented first by =
     let x = found.0 in
     let line = P.rest ++ Blank b ∷ x in
     let lines : lines_of all ≡ P.whole ++ line ∷ found.1 =
-            ap lines_of e ∙ lines_from before (Blank b ∷ ps) ∙ found.2 ∙ ap (λ t. P.whole ++ t ∷ found.1) (append_assoc P.rest (Blank b ∷ []) x) in
+    ap lines_of e ∙ lines_from before (Blank b ∷ ps) ∙ found.2 ∙ ap (λ t. P.whole ++ t ∷ found.1) (append_assoc P.rest (Blank b ∷ []) x) in
     let R : List (List Piece) → Type 0 = λ t. All (IsIndented c) t in
     let each : All (IsIndented c) (P.whole ++ line ∷ found.1) = subst R lines indented in
     let logical : is_logical line ≡ true = logical_behind P.rest (Blank b ∷ x) found.3 in

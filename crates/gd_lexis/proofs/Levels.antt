@@ -1,21 +1,17 @@
 -- Where what is left is cut to its end, and the blocks keep their bounds, no rule on blocks and indentation is broken.
-use Rattle.std.proofs.Common.{◌≡◌, ◌≢◌, ℕ, suc, ◌+◌, ◌-◌, ◌<◌, ◌≤◌, Bool, false, true, not, cond, ◌==◌, ◌||◌, ◌&&◌, List, [], ◌∷◌, ◌++◌, length, map, fold, filter, flat_map, take, refl, ap, sym, ◌∙◌, subst, inl, inr, arith, true≢false, append_assoc, append-nil, if◌then◌else◌, slice_index, nat_le, one-add, length-append}
-use Rattle.std.specs.Prelude.{◌⊎◌, All}
-use Rattle.std.specs.List.{list_any, prefix_len}
-use Rattle.std.proofs.lemmas.Bool.{or_parts, or_right, ne_eqb, leb-true, leb-false, le-leb, cases_Bool}
-use Rattle.std.proofs.lemmas.List.Elements.{All-head, All-tail, All-nil, All-cons, All-append}
+use Rattle.std.proofs.Common.{◌≡◌, ℕ, suc, ◌+◌, ◌-◌, ◌<◌, ◌≤◌, Bool, false, true, not, cond, ◌==◌, List, [], ◌∷◌, ◌++◌, length, fold, filter, take, refl, ap, sym, ◌∙◌, subst, arith, if◌then◌else◌, slice_index, nat_le, one-add, length-append}
+use Rattle.std.specs.List.{prefix_len}
+use Rattle.std.proofs.lemmas.Bool.{or_parts, or_right, ne_eqb, leb-true, le-leb}
 use Rattle.std.proofs.lemmas.List.Sums.{fold-append}
 use Rattle.gd_syntax.specs.declared.token.TokenKind.{TokenKind}
 use Rattle.gd_model.specs.declared.rule.Rule.TheVariants as rules
 use Rattle.gd_lexis.specs.declared.glyph.Glyph.{Glyph}
-use Rattle.gd_lexis.specs.declared.glyph.Glyph.TheVariants.{Char}
-use Rattle.gd_lexis.specs.Pieces.{Piece, Blank, LineFeed, Join, Comment, Tok, text_of, BeginsWith, IsLineEnd, Stands, IsCut}
-use Rattle.gd_lexis.specs.Lines.{Parted, parted, parted_behind, lines_of, is_token, is_logical, lead, is_indentation, depth, kept, innermost, blocks_behind, open_blocks}
-use Rattle.gd_lexis.specs.Lexes.{AreBlocks, IsMatched, IndentBy}
-use Rattle.gd_lexis.specs.Faults.{Breaks, BeginsToken, HasToken, here, over, joined, indentation, IsIndentedBy}
-use Rattle.gd_lexis.proofs.Cuts.{IsGap, char_parts, no_gap, one_end, glyph_not_empty}
-use Rattle.gd_lexis.proofs.Heads.{Front, front, front_of, TokenFront, token_front, token_front_of, token_code, token_code_no_gap}
-use Rattle.gd_lexis.proofs.Bounds.{all_at, Grown, grows, lines_behind, lines_from, with_piece, piece_grown, token_in_line}
+use Rattle.gd_lexis.specs.Pieces.{Piece, Tok, IsCut}
+use Rattle.gd_lexis.specs.Lines.{parted, lines_of, is_token, is_logical, lead, is_indentation, depth, kept, innermost, blocks_behind, open_blocks}
+use Rattle.gd_lexis.specs.Lexes.{AreBlocks, IsMatched}
+use Rattle.gd_lexis.specs.Faults.{Breaks}
+use Rattle.gd_lexis.proofs.Heads.{TokenFront, token_front, token_front_of, token_code, token_code_no_gap}
+use Rattle.gd_lexis.proofs.Bounds.{token_in_line}
 
 -- ---- a line's first token
 
@@ -48,9 +44,9 @@ blocks_here before kind text ps all e h first =
     let level : depth line ≡ depth rest = ap (λ t. length (filter is_indentation t)) (lead_same rest kind text g.0 first) in
     let P : ℕ → Type 0 = λ d. IsMatched (open_blocks whole) d in
     let opened : open_blocks (whole ++ line ∷ []) ≡ (if is_logical line then blocks_behind (open_blocks whole) (depth line) else open_blocks whole) =
-            fold-append (λ blocks line. if is_logical line then blocks_behind blocks (depth line) else blocks) [] whole (line ∷ []) in
+    fold-append (λ blocks line. if is_logical line then blocks_behind blocks (depth line) else blocks) [] whole (line ∷ []) in
     let behind : open_blocks (whole ++ line ∷ []) ≡ blocks_behind (open_blocks whole) (depth rest) =
-            opened ∙ ap (λ b. if b then blocks_behind (open_blocks whole) (depth line) else open_blocks whole) logical ∙ ap (blocks_behind (open_blocks whole)) level in
+    opened ∙ ap (λ b. if b then blocks_behind (open_blocks whole) (depth line) else open_blocks whole) logical ∙ ap (blocks_behind (open_blocks whole)) level in
     let Q : ℕ → Type 0 = λ n. n ≤ 32 in
     (subst P level bounds.0, subst Q (ap length behind) bounds.1)
 
@@ -146,7 +142,7 @@ deeper_block bs d h k =
     let all : kept d bs ≡ bs = kept_all 0 d bs h (omega (arith, innermost_is bs)) in
     let apart : (d == innermost bs) ≡ false = ne_eqb d (innermost bs) (λ e. omega arith) in
     let opened : blocks_behind bs d ≡ bs ++ d ∷ [] =
-            ap (λ t. if d == innermost t then t else t ++ d ∷ []) all ∙ ap (λ t. if t then bs else bs ++ d ∷ []) apart in
+    ap (λ t. if d == innermost t then t else t ++ d ∷ []) all ∙ ap (λ t. if t then bs else bs ++ d ∷ []) apart in
     ap length opened ∙ length-append bs (d ∷ [])
 
 too_deep : (before : List Piece) (gs : List Glyph) (ps all : List Piece) → all ≡ before ++ ps → AreBlocks (lines_of all) → is_logical (parted before).rest ≡ false

@@ -12,3 +12,7 @@ pub mod Numerals
 pub mod Bounds
 pub mod Levels
 pub mod Indents
+pub mod Quotes
+pub mod Wholes
+pub mod Slashes
+pub mod Faultless

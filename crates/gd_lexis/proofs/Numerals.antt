@@ -1,12 +1,12 @@
 -- Where what is left is cut to its end, no rule on bytes, characters and numbers is broken.
-use Rattle.std.proofs.Common.{◌≡◌, ◌≢◌, ℕ, ◌+◌, ◌<◌, ◌≤◌, ◌^◌, Bool, false, true, not, ◌==◌, ◌||◌, ◌&&◌, List, [], ◌∷◌, ◌++◌, length, map, refl, ap, sym, ◌∙◌, subst, inl, inr, arith, lit≤, true≢false, pos, append_assoc}
+use Rattle.std.proofs.Common.{◌≡◌, ◌≢◌, ℕ, ◌≤◌, ◌^◌, Bool, false, true, not, ◌==◌, ◌||◌, List, [], ◌∷◌, ◌++◌, map, refl, ap, sym, ◌∙◌, subst, inl, inr, arith, lit≤, true≢false, pos}
 use Rattle.std.specs.Prelude.{◌⊎◌, All, IsTrue, codes, nat_le}
 use Rattle.std.specs.Char.{is_ascii_alphanumeric}
 use Rattle.std.specs.Int.{IsInRange, is_in_range}
 use Rattle.std.proofs.lemmas.Bool.{or_left, or_right, and_from, le-leb, eqb-true}
 use Rattle.std.proofs.lemmas.List.Elements.{All-head, All-tail, All-nil, All-cons}
 use Rattle.std.proofs.lemmas.Str.Parse.{digit_from_value}
-use Rattle.unicode_ident.specs.Ident.{is_xid_start, is_xid_continue}
+use Rattle.unicode_ident.specs.Ident.{is_xid_start}
 use Rattle.unicode_ident.proofs.IdentLemmas.{is_xid_start-ascii, is_xid_continue-ascii}
 use Rattle.gd_syntax.specs.declared.token.TokenKind.{TokenKind}
 use Rattle.gd_syntax.specs.declared.token.TokenKind.TheVariants as kinds
@@ -17,11 +17,11 @@ use Rattle.gd_lexis.specs.declared.glyph.Glyph.{Glyph}
 use Rattle.gd_lexis.specs.declared.glyph.Glyph.TheVariants.{Char, Bad}
 use Rattle.gd_lexis.specs.Words.{IsName, GoesOn, IsFloatName, keyword_text, mark_text}
 use Rattle.gd_lexis.specs.Numbers.{IsDigit, WritesNumber, WritesDecimal}
-use Rattle.gd_lexis.specs.Pieces.{Piece, Blank, LineFeed, Join, Comment, Tok, text_of, Writes, BeginsWith, BeginsBy, IsLineEnd, IsLongest, IsClear, Stands, IsCut}
-use Rattle.gd_lexis.specs.Faults.{BeginsToken, IsNumber, IsStray, IsInComment, Breaks}
+use Rattle.gd_lexis.specs.Pieces.{Piece, Blank, LineFeed, Join, Comment, Tok, Writes, BeginsWith, BeginsBy, IsClear, Stands, IsCut}
+use Rattle.gd_lexis.specs.Faults.{IsNumber, IsStray, Breaks}
 use Rattle.gd_model.specs.declared.rule.Rule.TheVariants as rules
-use Rattle.gd_lexis.proofs.Lists.{not_empty, cons_parts}
-use Rattle.gd_lexis.proofs.Tokens.{Begins, BeginsName, BeginsString, keyword_letters, token_begins, two_letters}
+use Rattle.gd_lexis.proofs.Lists.{not_empty}
+use Rattle.gd_lexis.proofs.Tokens.{BeginsName, BeginsString, keyword_letters, token_begins, two_letters}
 use Rattle.gd_lexis.proofs.Cuts.{IsGap, char_parts, no_gap, glyph_not_empty, piece_begins}
 use Rattle.gd_lexis.proofs.Heads.{Front, front, front_of, TokenFront, token_front, token_front_of, Next, next_piece, token_next, begins_token, begins_at}
 
@@ -84,7 +84,7 @@ in_comment (c ∷ cs) [] us more e h k l m n =
     n (end.1.0, sym parts.1 ∙ ap (λ t. map Char t ++ us) end.0 ∙ end.1.1)
 in_comment (c ∷ cs) (g ∷ inner) us more e h k l m n =
     in_comment cs inner us more (glyph_tail (Char c) g (map Char cs ++ us) (inner ++ Char 13 ∷ more) e) (All-tail (λ c. c ≢ 10) c cs h) k (All-tail (λ g. g ≢ Char 10) g inner l)
-        (λ front back f. m (c ∷ front) back (ap (λ t. c ∷ t) f)) n
+    (λ front back f. m (c ∷ front) back (ap (λ t. c ∷ t) f)) n
 
 lone_return : (gs : List Glyph) (ps : List Piece) (inner more : List Glyph) → gs ≡ Char 35 ∷ inner ++ Char 13 ∷ more → All (λ g. g ≢ Char 10) inner → (BeginsWith (10 ∷ []) more → ⊥) → Front gs ps → ⊥
 lone_return gs ps inner more e h n (front (Blank d) us rest f g s b) = blank_no_comment d us s (code_is 35 d (inner ++ Char 13 ∷ more) us gs e g)
@@ -259,8 +259,9 @@ float_name : (name : List ℕ) (gs : List Glyph) (ps : List Piece) → IsFloatNa
 float_name name gs ps h (next_piece more rest e f clear b) = clear h
 
 pub float : (before : List Piece) (gs ahead : List Glyph) (ps : List Piece) → IsCut gs ps [] → Breaks rules.Float before gs ahead → ⊥
-float before gs ahead ps h (e, inl k) = elim k.6
-    [ inl dot ↦ dotted k.0 k.1 k.2 gs ps k.5 k.4 dot (number_next k.0 k.1 gs ps k.3 h)
-    | inr x ↦ goes_on k.0 k.1 k.2 gs ps k.5 (x.0, exponent_letter x.0 x.3, (map Char (x.1 ++ x.2 ∷ []) ++ x.6.0, x.6.1)) (number_next k.0 k.1 gs ps k.3 h) ]
+float before gs ahead ps h (e, inl k) = elim k.6 [
+  | inl dot ↦ dotted k.0 k.1 k.2 gs ps k.5 k.4 dot (number_next k.0 k.1 gs ps k.3 h)
+  | inr x ↦ goes_on k.0 k.1 k.2 gs ps k.5 (x.0, exponent_letter x.0 x.3, (map Char (x.1 ++ x.2 ∷ []) ++ x.6.0, x.6.1)) (number_next k.0 k.1 gs ps k.3 h)
+]
 float before gs ahead ps h (e, inr (inl k)) = dot_digit k.0 k.2.0 gs ps k.1 k.2.1 (token_front_of 46 (Char k.0 ∷ k.2.0) gs ps k.2.1 dot_no_gap h)
 float before gs ahead ps h (e, inr (inr k)) = float_name k.0 gs ps k.1 (token_next (kinds.Word k.0) k.0 gs ps (float_word k.0 k.1) k.2 k.3 h)
