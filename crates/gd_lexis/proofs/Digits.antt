@@ -44,7 +44,7 @@ one_in base low prefix text m n h k =
     let digits : h.1 ≡ k.1 = one_digits base low h.0 h.1 k.1 h.3 (subst P (sym same) k.3) in
     h.4 ∙ ap (number_of base) digits ∙ sym k.4
 
-second_digit : (c d : ℕ) (cs ds : List ℕ) → AreDigits 10 (c ∷ d ∷ cs) ds → IsDigit 10 d ⊎ (d ≡ 95)
+pub second_digit : (c d : ℕ) (cs ds : List ℕ) → AreDigits 10 (c ∷ d ∷ cs) ds → IsDigit 10 d ⊎ (d ≡ 95)
 second_digit c d [] ds h = inl h.1
 second_digit c d (e ∷ cs) ds h = chosen (λ a b. inl (first_digit 10 d (e ∷ cs) h.1.0 a)) (λ a b. inl (first_digit 10 d (e ∷ cs) h.1.0 a)) (λ a b. inr a.0) (λ a b. inr a.0) h.1.2 h.1.2
 

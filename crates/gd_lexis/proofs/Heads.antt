@@ -115,7 +115,7 @@ word_start c h = or_left ((is_xid_start c || (c == 95)) || (c == 34)) (c == 39) 
 alphabetic : (c : ℕ) → IsInRange 97 122 c → is_ascii_alphabetic c ≡ true
 alphabetic c h = or_right (is_in_range 65 90 c) (is_in_range 97 122 c) (and_from (nat_le 97 c) (nat_le c 122) (le-leb 97 c h.0) (le-leb c 122 h.1))
 
-lower_start : (c : ℕ) → IsInRange 97 122 c → IsTrue (is_xid_start c || (c == 95))
+pub lower_start : (c : ℕ) → IsInRange 97 122 c → IsTrue (is_xid_start c || (c == 95))
 lower_start c h = or_left (is_xid_start c) (c == 95) (is_xid_start-ascii c (omega arith) ∙ alphabetic c h)
 
 named : (text : List ℕ) (more gs : List Glyph) → IsName text → gs ≡ map Char text ++ more → BeginsToken gs

@@ -109,10 +109,10 @@ all_front : {X : Type 0} (P : X → Type 0) (xs ys : List X) → All P (xs ++ ys
 all_front P [] ys h = All-nil P
 all_front P (x ∷ xs) ys h = All-cons P x xs (All-head P x (xs ++ ys) h) (all_front P xs ys (All-tail P x (xs ++ ys) h))
 
-abbrev IsOne : ℕ → Piece → Type 0
+abbrev pub IsOne : ℕ → Piece → Type 0
 IsOne c p = is_indentation p ≡ true → p ≡ Blank c
 
-abbrev IsIndented : ℕ → List Piece → Type 0
+abbrev pub IsIndented : ℕ → List Piece → Type 0
 IsIndented c line = is_logical line ≡ true → All (IsOne c) (lead line)
 
 with_line : (c : ℕ) (t : Bool) (line : List Piece) (lines : List (List Piece)) → (t ≡ true → All (IsOne c) (lead line)) → All (IsOne c) (flat_map lead lines)

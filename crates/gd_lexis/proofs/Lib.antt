@@ -16,3 +16,6 @@ pub mod Quotes
 pub mod Wholes
 pub mod Slashes
 pub mod Faultless
+pub mod Short
+pub mod Samples
+pub mod SampleFault

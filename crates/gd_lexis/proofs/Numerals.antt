@@ -27,7 +27,7 @@ use Rattle.gd_lexis.proofs.Heads.{Front, front, front_of, TokenFront, token_fron
 
 -- ---- bytes that are part of no character
 
-char_bad : (c b : ℕ) (us vs : List Glyph) → Char c ∷ us ≡ Bad b ∷ vs → ⊥
+pub char_bad : (c b : ℕ) (us vs : List Glyph) → Char c ∷ us ≡ Bad b ∷ vs → ⊥
 char_bad c b us vs e = cc
 
 glyph_tail : (g h : Glyph) (us vs : List Glyph) → g ∷ us ≡ h ∷ vs → us ≡ vs
@@ -240,7 +240,7 @@ capital_goes_on c h = is_xid_continue-ascii c (omega arith) ∙ or_left (is_asci
 capital_starts : (c : ℕ) → IsInRange 65 90 c → IsTrue (is_xid_start c || (c == 95))
 capital_starts c h = or_left (is_xid_start c) (c == 95) (is_xid_start-ascii c (omega arith) ∙ or_left (is_in_range 65 90 c) (is_in_range 97 122 c) (and_from (nat_le 65 c) (nat_le c 90) (le-leb 65 c h.0) (le-leb c 90 h.1)))
 
-no_keyword : (name : List ℕ) → two_letters name ≡ false → (k : Keyword) → name ≢ keyword_text k
+pub no_keyword : (name : List ℕ) → two_letters name ≡ false → (k : Keyword) → name ≢ keyword_text k
 no_keyword name h k e = true≢false (sym (keyword_letters k) ∙ ap two_letters (sym e) ∙ h)
 
 two_capitals : (c d : ℕ) → IsInRange 65 90 c → IsInRange 65 90 d → IsName (c ∷ d ∷ [])

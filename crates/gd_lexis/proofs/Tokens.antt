@@ -221,7 +221,7 @@ string_mark : (c d : ℕ) → BeginsString c d → BeginsMark c → ⊥
 string_mark c d h k = omega arith
 
 -- the first two characters of one text are the same
-same_begin : (P : ℕ → ℕ → Type 0) (text : List ℕ) (c d : ℕ) (cs ds : List ℕ) → text ≡ c ∷ cs → text ≡ d ∷ ds → P d (next ds) → P c (next cs)
+pub same_begin : (P : ℕ → ℕ → Type 0) (text : List ℕ) (c d : ℕ) (cs ds : List ℕ) → text ≡ c ∷ cs → text ≡ d ∷ ds → P d (next ds) → P c (next cs)
 same_begin P text c d cs ds e f h =
     let parts = cons_parts c d cs ds (sym e ∙ f) in
     let Q : ℕ → Type 0 = λ x. P x (next ds) in

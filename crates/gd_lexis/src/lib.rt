@@ -17,6 +17,7 @@ ghost use Rattle.gd_lexis.specs.Pieces.{Writes};
 ghost use Rattle.gd_syntax.specs.declared.token.Token.{Token};
 ghost use Rattle.gd_lexis.specs.Lexes.{Lexes};
 ghost use Rattle.gd_lexis.specs.Faults.{FirstFault, IsBroken, number};
+ghost use Rattle.gd_lexis.specs.Trials.{OneBlock, OneFloat, OneMark, OneName, OneString};
 
 mod glyph;
 
@@ -69,4 +70,13 @@ pub fn one_token_list()
 /// A file with tokens breaks no rule.
 pub fn no_fault_beside_tokens()
     ensures { (file : ℕ) (bytes : List ℕ) (tokens : List Token) (rule : Rule) (at : Pos) → Lexes file bytes tokens → IsBroken file bytes rule at → ⊥ }
+{}
+
+/// Short files, with their tokens or their first fault.
+pub fn trials()
+    ensures name { OneName }
+    ensures mark { OneMark }
+    ensures string { OneString }
+    ensures block { OneBlock }
+    ensures float { OneFloat }
 {}
