@@ -10,7 +10,7 @@ use Rattle.gd_lexis.specs.declared.glyph.Glyph.{Glyph}
 use Rattle.gd_lexis.specs.declared.glyph.Glyph.TheVariants.{Char}
 use Rattle.gd_lexis.specs.Strings.{Quote, IsQuote, closing, ends_here, begins_line_end, simple, IsEscape, Body, nothing, plain, line_end, escape, kept, kept_line_end}
 use Rattle.gd_lexis.specs.Pieces.{BeginsWith}
-use Rattle.gd_lexis.specs.Faults.{Inside, nothing as in_nothing, plain as in_plain, escaped, taken}
+use Rattle.gd_lexis.specs.Faults.{Inside, nothing as in_nothing, plain as in_plain, taken}
 use Rattle.gd_lexis.proofs.Escapes.{Means, one as means_one, line_feed as means_feed, line_end as means_end, short, long, pair, meant}
 use Rattle.gd_lexis.proofs.Bodies.{not_both}
 use Rattle.gd_lexis.proofs.Cuts.{char_parts}
@@ -74,10 +74,42 @@ pub mark_apart : (q : Quote) (c : ℕ) → IsQuote q → c ≢ 34 → c ≢ 39 �
 mark_apart q c (inl e, k) h i f = h (f ∙ e)
 mark_apart q c (inr e, k) h i f = i (f ∙ e)
 
+no_value : (c d : ℕ) → digit_value d ≡ 36 → digit_value c < 16 → c ≢ d
+no_value c d value h e = let same : digit_value c ≡ 36 = ap digit_value e ∙ value in omega arith
+
 -- ---- what stands between the ends is inside of them
 
 plain_glyph : (q : Quote) (rest : List Glyph) (c : ℕ) (us : List Glyph) → IsQuote q → c ≢ 92 → c ≢ 34 → c ≢ 39 → Inside q rest us → Inside q rest (Char c ∷ us)
 plain_glyph q rest c us h k l m i = in_plain (Char c) us (λ e. k (char_same c 92 e)) (no_end_at q c (us ++ rest) h (mark_apart q c h l m)) i
+
+inside_digits : (q : Quote) (rest us : List Glyph) (hex : List ℕ) → IsQuote q → All (λ c. digit_value c < 16) hex → Inside q rest us → Inside q rest (map Char hex ++ us)
+inside_digits q rest us [] h all i = i
+inside_digits q rest us (c ∷ hex) h all i =
+    let small : digit_value c < 16 = All-head (λ c. digit_value c < 16) c hex all in
+    plain_glyph q rest c (map Char hex ++ us) h (no_value c 92 refl small) (no_value c 34 refl small) (no_value c 39 refl small)
+    (inside_digits q rest us hex h (All-tail (λ c. digit_value c < 16) c hex all) i)
+
+inside_meaning : (q : Quote) (c : ℕ) (more s : List ℕ) (rest us : List Glyph) → IsQuote q → Means c more s → Inside q rest us → Inside q rest (Char 92 ∷ Char c ∷ map Char more ++ us)
+inside_meaning q c more s rest us h (means_one d k e f) i = let P : List ℕ → Type 0 = λ t. Inside q rest (Char 92 ∷ Char c ∷ map Char t ++ us) in subst P (sym e) (taken (Char c) us i)
+inside_meaning q c more s rest us h (means_feed k e f) i = let P : List ℕ → Type 0 = λ t. Inside q rest (Char 92 ∷ Char c ∷ map Char t ++ us) in subst P (sym e) (taken (Char c) us i)
+inside_meaning q c more s rest us h (means_end k e f) i =
+    let P : List ℕ → Type 0 = λ t. Inside q rest (Char 92 ∷ Char c ∷ map Char t ++ us) in
+    subst P (sym e) (taken (Char c) (Char 10 ∷ us) (plain_glyph q rest 10 us h (omega arith) (omega arith) (omega arith) i))
+inside_meaning q c more s rest us h (short n k w a f) i = taken (Char c) (map Char more ++ us) (inside_digits q rest us more h w.1 i)
+inside_meaning q c more s rest us h (long n k w a f) i = taken (Char c) (map Char more ++ us) (inside_digits q rest us more h w.1 i)
+inside_meaning q c more s rest us h (pair x y j l k e w v m n f) i =
+    let behind = taken (Char 117) (map Char y ++ us) (inside_digits q rest us y h v.1 i) in
+    let digits = inside_digits q rest (Char 92 ∷ Char 117 ∷ map Char y ++ us) x h w.1 behind in
+    let glyphs : map Char more ++ us ≡ map Char x ++ (Char 92 ∷ Char 117 ∷ map Char y ++ us) =
+    ap (λ t. map Char t ++ us) e ∙ ap (λ t. t ++ us) (map-append Char x (92 ∷ 117 ∷ y)) ∙ append_assoc (map Char x) (map Char (92 ∷ 117 ∷ y)) us in
+    let P : List Glyph → Type 0 = λ t. Inside q rest (Char 92 ∷ Char c ∷ t) in
+    subst P (sym glyphs) (taken (Char c) (map Char x ++ (Char 92 ∷ Char 117 ∷ map Char y ++ us)) digits)
+
+inside_escape : (q : Quote) (e s : List ℕ) (rest us : List Glyph) → IsQuote q → IsEscape e s → Inside q rest us → Inside q rest (map Char e ++ us)
+inside_escape q e s rest us h k i =
+    let m = meant e s k in
+    let P : List ℕ → Type 0 = λ t. Inside q rest (map Char t ++ us) in
+    subst P (sym m.2) (inside_meaning q m.0 m.1 s rest us h m.3 i)
 
 pub inside_of : (q : Quote) (rest : List Glyph) {body t : List ℕ} → IsQuote q → Body q body t → Inside q (map Char (closing q) ++ rest) (map Char body)
 inside_of q rest h nothing = in_nothing
@@ -87,10 +119,10 @@ inside_of q rest h (line_end cs t b) =
     plain_glyph q end 13 (Char 10 ∷ map Char cs) h (omega arith) (omega arith) (omega arith) (plain_glyph q end 10 (map Char cs) h (omega arith) (omega arith) (omega arith) (inside_of q rest h b))
 inside_of q rest h (escape e s cs t k l b) =
     let P : List Glyph → Type 0 = λ x. Inside q (map Char (closing q) ++ rest) x in
-    subst P (sym (map-append Char e cs)) (escaped e s (map Char cs) k l (inside_of q rest h b))
-inside_of q rest h (kept c cs t k l b) = taken (Char c) (map Char cs) (λ r. absurd (not_both q.is_raw k r)) (inside_of q rest h b)
+    subst P (sym (map-append Char e cs)) (inside_escape q e s (map Char (closing q) ++ rest) (map Char cs) h l (inside_of q rest h b))
+inside_of q rest h (kept c cs t k l b) = taken (Char c) (map Char cs) (inside_of q rest h b)
 inside_of q rest h (kept_line_end cs t k b) =
-    taken (Char 13) (Char 10 ∷ map Char cs) (λ r. absurd (not_both q.is_raw k r)) (plain_glyph q (map Char (closing q) ++ rest) 10 (map Char cs) h (omega arith) (omega arith) (omega arith) (inside_of q rest h b))
+    taken (Char 13) (Char 10 ∷ map Char cs) (plain_glyph q (map Char (closing q) ++ rest) 10 (map Char cs) h (omega arith) (omega arith) (omega arith) (inside_of q rest h b))
 
 -- ---- what can stand in a string can stand in a raw one
 
@@ -102,9 +134,6 @@ RawBody q cs = (t : List ℕ) × Body (raw q) cs t
 
 not_return : (c : ℕ) (cs : List ℕ) → c ≢ 13 → begins_line_end (c ∷ cs) ≡ false
 not_return c cs h = and_left (c == 13) _ (ne_eqb c 13 h)
-
-no_value : (c d : ℕ) → digit_value d ≡ 36 → digit_value c < 16 → c ≢ d
-no_value c d value h e = let same : digit_value c ≡ 36 = ap digit_value e ∙ value in omega arith
 
 raw_digits : (q : Quote) (hex cs : List ℕ) → IsQuote q → All (λ c. digit_value c < 16) hex → RawBody q cs → RawBody q (hex ++ cs)
 raw_digits q [] cs h all b = b

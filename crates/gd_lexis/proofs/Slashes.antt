@@ -1,5 +1,5 @@
 -- Where what is left is cut to its end, each backslash of a string that is not raw begins an escape.
-use Rattle.std.proofs.Common.{◌≡◌, ◌≢◌, ℕ, false, List, [], ◌∷◌, ◌++◌, map, refl, ap, sym, ◌∙◌, inl, inr, arith, append_assoc, append-nil}
+use Rattle.std.proofs.Common.{true, ◌≡◌, ◌≢◌, ℕ, false, List, [], ◌∷◌, ◌++◌, map, refl, ap, sym, ◌∙◌, inl, inr, arith, append_assoc, append-nil, ◌<◌, ◌≤◌, length, length-append}
 use Rattle.std.specs.Prelude.{◌⊎◌}
 use Rattle.std.proofs.lemmas.List.{append_cancel_left}
 use Rattle.gd_model.specs.declared.rule.Rule.TheVariants as rules
@@ -7,11 +7,11 @@ use Rattle.gd_lexis.specs.declared.glyph.Glyph.{Glyph}
 use Rattle.gd_lexis.specs.declared.glyph.Glyph.TheVariants.{Char}
 use Rattle.gd_lexis.specs.Strings.{Quote, IsQuote, opening, closing, IsEscape, Body}
 use Rattle.gd_lexis.specs.Pieces.{Piece, BeginsWith, IsCut}
-use Rattle.gd_lexis.specs.Faults.{Inside, nothing as in_nothing, plain as in_plain, escaped, taken, Breaks}
+use Rattle.gd_lexis.specs.Faults.{Inside, nothing as in_nothing, plain as in_plain, taken, Parts, no_more, itself, whole_escape, no_escape, Breaks}
 use Rattle.gd_lexis.proofs.Escapes.{meant, one_escape}
 use Rattle.gd_lexis.proofs.Bodies.{Part, a_plain, a_line_end, an_escape, a_kept, a_kept_line_end, Parted, none, first, parts_of, not_both}
 use Rattle.gd_lexis.proofs.Cuts.{char_parts}
-use Rattle.gd_lexis.proofs.Quotes.{closing_head, closings}
+use Rattle.gd_lexis.proofs.Quotes.{closing_head, closings, raw, raw_body}
 use Rattle.gd_lexis.proofs.Wholes.{string_here, joined_glyphs}
 
 -- what is left of a body: it stands at a part, or in a line end
@@ -74,11 +74,11 @@ other_part q front rest s t g us more r n (an_escape x y h k) b f =
 other_part q front rest s t g us more r n (a_kept c h k) b f = absurd (not_both q.is_raw h r)
 other_part q front rest s t g us more r n (a_kept_line_end h) b f = absurd (not_both q.is_raw h r)
 
-other_parted : (q : Quote) (cs t : List ℕ) (g : Glyph) (us more : List Glyph) → q.is_raw ≡ false → g ≢ Char 92 → (BeginsWith (closing q) (g ∷ us) → ⊥) → Parted q cs t → g ∷ us ≡ Left q cs more → Behind q us more
-other_parted q cs t g us more r n l (none e f) h = absurd (l (more, h ∙ ap (λ x. Left q x more) e))
+other_parted : (q : Quote) (cs t : List ℕ) (g : Glyph) (us more : List Glyph) → q.is_raw ≡ false → g ≢ Char 92 → (g ∷ us ≡ map Char (closing q) ++ more → ⊥) → Parted q cs t → g ∷ us ≡ Left q cs more → Behind q us more
+other_parted q cs t g us more r n l (none e f) h = absurd (l (h ∙ ap (λ x. Left q x more) e))
 other_parted q cs t g us more r n l (first front s rest u e f p b) h = other_part q front rest s u g us more r n p b (h ∙ left_by q cs front rest more e)
 
-at_other : (q : Quote) (cs : List ℕ) (g : Glyph) (us more : List Glyph) → q.is_raw ≡ false → g ≢ Char 92 → (BeginsWith (closing q) (g ∷ us) → ⊥) → Going q cs → g ∷ us ≡ Left q cs more → Behind q us more
+at_other : (q : Quote) (cs : List ℕ) (g : Glyph) (us more : List Glyph) → q.is_raw ≡ false → g ≢ Char 92 → (g ∷ us ≡ map Char (closing q) ++ more → ⊥) → Going q cs → g ∷ us ≡ Left q cs more → Behind q us more
 at_other q cs g us more r n l (at t b) e = other_parted q cs t g us more r n l (parts_of q b) e
 at_other q cs g us more r n l (half ds t f b) e = (ds, at t b, glyph_tail g (Char 10) us (Left q ds more) (e ∙ ap (λ x. Left q x more) f))
 
@@ -111,24 +111,87 @@ slash_on q e s cs us more h f (slash x y rest t k g b) =
     let same : e ≡ x = escapes_same e x s y h k (longer e x us (Left q rest more) glyphs) in
     (rest, at t b, append_cancel_left (map Char e) us (Left q rest more) (glyphs ∙ ap (λ z. map Char z ++ Left q rest more) (sym same)))
 
-clash : (q : Quote) (back more : List Glyph) (cs : List ℕ) {front : List Glyph} → IsQuote q → q.is_raw ≡ false → Inside q (Char 92 ∷ back) front → Going q cs
-    → front ++ Char 92 ∷ back ≡ Left q cs more → ((e s : List ℕ) → IsEscape e s → BeginsWith e (Char 92 ∷ back) → ⊥) → ⊥
-clash q back more cs h r in_nothing k e unescaped = slash_ends q cs (Char 92 ∷ back) more e unescaped (at_slash q cs back more h r k e)
-clash q back more cs h r (in_plain g gs n l i) k e unescaped =
-    let b = at_other q cs g (gs ++ Char 92 ∷ back) more r n l k e in
-    clash q back more b.0 h r i b.1 b.2 unescaped
-clash q back more cs h r (escaped x s gs o l i) k e unescaped =
+-- the end does not stand before a backslash that more follows than the end
+not_there : (q : Quote) (g : Glyph) (gs back more : List Glyph) → length (map Char (closing q) ++ more) < length (Char 92 ∷ back) → g ∷ (gs ++ Char 92 ∷ back) ≡ map Char (closing q) ++ more → ⊥
+not_there q g gs back more less e =
+    let sizes : length (g ∷ (gs ++ Char 92 ∷ back)) ≡ length (map Char (closing q) ++ more) = ap length e in
+    omega (arith, sizes, length-append gs (Char 92 ∷ back))
+
+clash : (q : Quote) (back more : List Glyph) (cs : List ℕ) {front : List Glyph} → IsQuote q → q.is_raw ≡ false → Parts (Char 92 ∷ back) front → Going q cs
+    → front ++ Char 92 ∷ back ≡ Left q cs more → length (map Char (closing q) ++ more) < length (Char 92 ∷ back) → ((e s : List ℕ) → IsEscape e s → BeginsWith e (Char 92 ∷ back) → ⊥) → ⊥
+clash q back more cs h r no_more k e less unescaped = slash_ends q cs (Char 92 ∷ back) more e unescaped (at_slash q cs back more h r k e)
+clash q back more cs h r (itself g gs n i) k e less unescaped =
+    let b = at_other q cs g (gs ++ Char 92 ∷ back) more r n (not_there q g gs back more less) k e in
+    clash q back more b.0 h r i b.1 b.2 less unescaped
+clash q back more cs h r (whole_escape x s gs l i) k e less unescaped =
     let m = meant x s l in
     let glyphs : map Char x ++ (gs ++ Char 92 ∷ back) ≡ Left q cs more = sym (append_assoc (map Char x) gs (Char 92 ∷ back)) ∙ e in
     let begun : Char 92 ∷ map Char (m.0 ∷ m.1) ++ (gs ++ Char 92 ∷ back) ≡ Left q cs more = ap (λ z. map Char z ++ (gs ++ Char 92 ∷ back)) (sym m.2) ∙ glyphs in
     let b = slash_on q x s cs (gs ++ Char 92 ∷ back) more l glyphs (at_slash q cs (map Char (m.0 ∷ m.1) ++ (gs ++ Char 92 ∷ back)) more h r k begun) in
-    clash q back more b.0 h r i b.1 b.2 unescaped
-clash q back more cs h r (taken g gs l i) k e unescaped =
-    slash_ends q cs (Char 92 ∷ g ∷ gs ++ Char 92 ∷ back) more e (l r) (at_slash q cs (g ∷ gs ++ Char 92 ∷ back) more h r k e)
+    clash q back more b.0 h r i b.1 b.2 less unescaped
+clash q back more cs h r (no_escape g gs l i) k e less unescaped =
+    slash_ends q cs (Char 92 ∷ g ∷ (gs ++ Char 92 ∷ back)) more e l (at_slash q cs (g ∷ (gs ++ Char 92 ∷ back)) more h r k e)
+
+-- ---- the ends of a whole string stand where the token's do
+
+-- what is left of a raw body, by parts of one or two glyphs
+raw_step : (q : Quote) (front rest s t : List ℕ) (g : Glyph) (us more : List Glyph) → q.is_raw ≡ true → g ≢ Char 92 → Part q rest front s → Body q rest t → g ∷ us ≡ map Char front ++ Left q rest more → Behind q us more
+raw_step q front rest s t g us more r n (a_plain c h k l) b f = (rest, at t b, glyph_tail g (Char c) us (Left q rest more) f)
+raw_step q front rest s t g us more r n a_line_end b f = (10 ∷ rest, half rest t refl b, glyph_tail g (Char 13) us (Char 10 ∷ Left q rest more) f)
+raw_step q front rest s t g us more r n (an_escape x y h k) b f = absurd (not_both q.is_raw r h)
+raw_step q front rest s t g us more r n (a_kept c h k) b f = absurd (n (glyph_head g (Char 92) us (Char c ∷ Left q rest more) f))
+raw_step q front rest s t g us more r n (a_kept_line_end h) b f = absurd (n (glyph_head g (Char 92) us (Char 13 ∷ Char 10 ∷ Left q rest more) f))
+
+raw_parted : (q : Quote) (cs t : List ℕ) (g : Glyph) (us more : List Glyph) → q.is_raw ≡ true → g ≢ Char 92 → (BeginsWith (closing q) (g ∷ us) → ⊥) → Parted q cs t → g ∷ us ≡ Left q cs more → Behind q us more
+raw_parted q cs t g us more r n l (none e f) h = absurd (l (more, h ∙ ap (λ x. Left q x more) e))
+raw_parted q cs t g us more r n l (first front s rest u e f p b) h = raw_step q front rest s u g us more r n p b (h ∙ left_by q cs front rest more e)
+
+raw_other : (q : Quote) (cs : List ℕ) (g : Glyph) (us more : List Glyph) → q.is_raw ≡ true → g ≢ Char 92 → (BeginsWith (closing q) (g ∷ us) → ⊥) → Going q cs → g ∷ us ≡ Left q cs more → Behind q us more
+raw_other q cs g us more r n l (at t b) e = raw_parted q cs t g us more r n l (parts_of q b) e
+raw_other q cs g us more r n l (half ds t f b) e = (ds, at t b, glyph_tail g (Char 10) us (Left q ds more) (e ∙ ap (λ x. Left q x more) f))
+
+raw_taken : (q : Quote) (front rest s t : List ℕ) (g : Glyph) (us more : List Glyph) → q.is_raw ≡ true → Part q rest front s → Body q rest t → Char 92 ∷ g ∷ us ≡ map Char front ++ Left q rest more → Behind q us more
+raw_taken q front rest s t g us more r (a_plain c h k l) b f = absurd (h (sym (parts 92 c (g ∷ us) (Left q rest more) f).0))
+raw_taken q front rest s t g us more r a_line_end b f = let code = (parts 92 13 (g ∷ us) (Char 10 ∷ Left q rest more) f).0 in absurd (omega (arith, code))
+raw_taken q front rest s t g us more r (an_escape x y h k) b f = absurd (not_both q.is_raw r h)
+raw_taken q front rest s t g us more r (a_kept c h k) b f = (rest, at t b, glyph_tail g (Char c) us (Left q rest more) (glyph_tail (Char 92) (Char 92) (g ∷ us) (Char c ∷ Left q rest more) f))
+raw_taken q front rest s t g us more r (a_kept_line_end h) b f =
+    (10 ∷ rest, half rest t refl b, glyph_tail g (Char 13) us (Char 10 ∷ Left q rest more) (glyph_tail (Char 92) (Char 92) (g ∷ us) (Char 13 ∷ Char 10 ∷ Left q rest more) f))
+
+taken_parted : (q : Quote) (cs t : List ℕ) (g : Glyph) (us more : List Glyph) → IsQuote q → q.is_raw ≡ true → Parted q cs t → Char 92 ∷ g ∷ us ≡ Left q cs more → Behind q us more
+taken_parted q cs t g us more h r (none e f) i = absurd (mark_not q 92 (g ∷ us) more h (omega arith) (omega arith) (sym (i ∙ ap (λ x. Left q x more) e)))
+taken_parted q cs t g us more h r (first front s rest u e f p b) i = raw_taken q front rest s u g us more r p b (i ∙ left_by q cs front rest more e)
+
+taken_on : (q : Quote) (cs : List ℕ) (g : Glyph) (us more : List Glyph) → IsQuote q → q.is_raw ≡ true → Going q cs → Char 92 ∷ g ∷ us ≡ Left q cs more → Behind q us more
+taken_on q cs g us more h r (at t b) e = taken_parted q cs t g us more h r (parts_of q b) e
+taken_on q cs g us more h r (half ds t f b) e = let code = (parts 92 10 (g ∷ us) (Left q ds more) (e ∙ ap (λ x. Left q x more) f)).0 in absurd (omega (arith, code))
+
+-- no end stands inside, so what follows the token's end is no longer than what follows the string's
+ends_no_later : (q : Quote) (end more : List Glyph) (cs : List ℕ) {body : List Glyph} → IsQuote q → q.is_raw ≡ true → Inside q end body → Going q cs → body ++ end ≡ Left q cs more
+    → length (map Char (closing q) ++ more) ≤ length end
+ends_no_later q end more cs h r in_nothing k e =
+    let sizes : length end ≡ length (Left q cs more) = ap length e in
+    omega (arith, sizes, length-append (map Char cs) (map Char (closing q) ++ more))
+ends_no_later q end more cs h r (in_plain g gs n l i) k e = let b = raw_other q cs g (gs ++ end) more r n l k e in ends_no_later q end more b.0 h r i b.1 b.2
+ends_no_later q end more cs h r (taken g gs i) k e = let b = taken_on q cs g (gs ++ end) more h r k e in ends_no_later q end more b.0 h r i b.1 b.2
+
+-- what stands between the ends does not ask whether the string is raw
+as_raw : (q : Quote) (end : List Glyph) {body : List Glyph} → Inside q end body → Inside (raw q) end body
+as_raw q end in_nothing = in_nothing
+as_raw q end (in_plain g gs n l i) = in_plain g gs n l (as_raw q end i)
+as_raw q end (taken g gs i) = taken g gs (as_raw q end i)
+
+shorter : (body front end back closed : List Glyph) → body ++ end ≡ front ++ Char 92 ∷ back → length front < length body → length closed ≤ length end → length closed < length (Char 92 ∷ back)
+shorter body front end back closed e less most =
+    let sizes : length (body ++ end) ≡ length (front ++ Char 92 ∷ back) = ap length e in
+    omega (arith, sizes, length-append body end, length-append front (Char 92 ∷ back))
 
 pub bad_escape : (before : List Piece) (gs ahead : List Glyph) (ps : List Piece) → IsCut gs ps [] → Breaks rules.BadEscape before gs ahead → ⊥
 bad_escape before gs ahead ps cut k =
     let q = k.0 in
+    let end = map Char (closing q) ++ k.2 in
     let f = string_here q gs ps k.5.0 cut in
-    let same : k.1 ++ (map Char (closing q) ++ k.2) ≡ Left q f.0 f.2 = append_cancel_left (map Char (opening q)) (k.1 ++ (map Char (closing q) ++ k.2)) (Left q f.0 f.2) (sym k.5.1 ∙ f.4) in
-    clash q k.4 f.2 f.0 k.5.0.0 k.6 k.9 (at f.1 f.3) (sym k.8 ∙ same) k.11
+    let same : k.1 ++ end ≡ Left q f.0 f.2 = append_cancel_left (map Char (opening q)) (k.1 ++ end) (Left q f.0 f.2) (sym k.5.1 ∙ f.4) in
+    let b = raw_body q k.5.0.0 k.6 f.3 in
+    let most : length (map Char (closing q) ++ f.2) ≤ length end = ends_no_later (raw q) end f.2 f.0 k.5.0.0 refl (as_raw q end k.5.2) (at b.0 b.1) same in
+    clash q k.4 f.2 f.0 k.5.0.0 k.6 k.9 (at f.1 f.3) (sym k.8 ∙ same) (shorter k.1 k.3 end k.4 (map Char (closing q) ++ f.2) k.8 k.10 most) k.11

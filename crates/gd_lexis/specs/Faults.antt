@@ -30,14 +30,19 @@ pub data HasToken : List Glyph → Type 0 where
   over : (g : Glyph) (gs : List Glyph) → g ≢ Char 10 → g ≢ Char 35 → HasToken gs → HasToken (g ∷ gs)
   joined : (end : List ℕ) (gs : List Glyph) → IsLineEnd end → HasToken gs → HasToken (map Char (92 ∷ end) ++ gs)
 
--- The glyphs between the ends of a string: glyphs that stand for themselves, whole escapes, and backslashes at which none
--- begins, each with the glyph behind it. No end stands at any of these.
+-- the glyphs between the ends of a string: a backslash takes the glyph behind it along, and elsewhere no end stands
 pub data Inside (q : Quote) (rest : List Glyph) : List Glyph → Type 0 where
   nothing : Inside q rest []
-  plain : (g : Glyph) (gs : List Glyph) → g ≢ Char 92 → (BeginsWith (closing q) (g ∷ gs ++ rest) → ⊥) → Inside q rest gs → Inside q rest (g ∷ gs)
-  escaped : (e s : List ℕ) (gs : List Glyph) → q.is_raw ≡ false → IsEscape e s → Inside q rest gs → Inside q rest (map Char e ++ gs)
-  taken : (g : Glyph) (gs : List Glyph) → (q.is_raw ≡ false → (e s : List ℕ) → IsEscape e s → BeginsWith e (Char 92 ∷ g ∷ gs ++ rest) → ⊥) → Inside q rest gs
-      → Inside q rest (Char 92 ∷ g ∷ gs)
+  plain : (g : Glyph) (gs : List Glyph) → g ≢ Char 92 → (BeginsWith (closing q) (g ∷ (gs ++ rest)) → ⊥) → Inside q rest gs → Inside q rest (g ∷ gs)
+  taken : (g : Glyph) (gs : List Glyph) → Inside q rest gs → Inside q rest (Char 92 ∷ g ∷ gs)
+
+-- The front of what stands in a string that is not raw: glyphs that stand for themselves, whole escapes, and backslashes at
+-- which none begins, each with the glyph behind it.
+pub data Parts (rest : List Glyph) : List Glyph → Type 0 where
+  no_more : Parts rest []
+  itself : (g : Glyph) (gs : List Glyph) → g ≢ Char 92 → Parts rest gs → Parts rest (g ∷ gs)
+  whole_escape : (e s : List ℕ) (gs : List Glyph) → IsEscape e s → Parts rest gs → Parts rest (map Char e ++ gs)
+  no_escape : (g : Glyph) (gs : List Glyph) → ((e s : List ℕ) → IsEscape e s → BeginsWith e (Char 92 ∷ g ∷ (gs ++ rest)) → ⊥) → Parts rest gs → Parts rest (Char 92 ∷ g ∷ gs)
 
 -- a string of this kind begins here: three quotes always open one of three
 abbrev pub Opens : Quote → List Glyph → Type 0
@@ -96,7 +101,7 @@ Breaks rules.UnmatchedDedent before gs ahead = (ahead ≡ []) × IsFirst before 
 Breaks rules.UnterminatedString before gs ahead = (ahead ≡ []) × ((q : Quote) × Opens q gs × ((body : List Glyph) (rest : List Glyph) → IsWhole q body rest gs → ⊥))
 Breaks rules.BadEscape before gs ahead =
     (q : Quote) × (body : List Glyph) × (rest : List Glyph) × (front : List Glyph) × (back : List Glyph) × IsWhole q body rest gs × (q.is_raw ≡ false)
-    × (ahead ≡ map Char (opening q) ++ front) × (body ++ (map Char (closing q) ++ rest) ≡ front ++ Char 92 ∷ back) × Inside q (Char 92 ∷ back) front
+    × (ahead ≡ map Char (opening q) ++ front) × (body ++ (map Char (closing q) ++ rest) ≡ front ++ Char 92 ∷ back) × Parts (Char 92 ∷ back) front
     × (length front < length body) × ((e : List ℕ) (s : List ℕ) → IsEscape e s → BeginsWith e (Char 92 ∷ back) → ⊥)
 Breaks rules.StrayCharacter before gs ahead =
     ((ahead ≡ []) × IsStray gs)
