@@ -208,9 +208,9 @@ brackets_too_deep before gs ahead ps all h e within k =
 
 -- ---- items
 
-one_more : (xs : List ℕ) (around : List ℕ) → All (λ n. n ≤ 100) (counted xs) → 100 ≤ slice_index xs 0 → ⊥
-one_more [] around h k = omega arith
-one_more (n ∷ xs) around h k = let small : n + 1 ≤ 100 = All-head (λ n. n ≤ 100) (n + 1) xs h in omega arith
+one_more : (xs : List ℕ) → All (λ n. n ≤ 100) (counted xs) → 100 ≤ slice_index xs 0 → ⊥
+one_more [] h k = omega arith
+one_more (n ∷ xs) h k = let small : n + 1 ≤ 100 = All-head (λ n. n ≤ 100) (n + 1) xs h in omega arith
 
 closing_no_opening : (m : Mark) → is_closing m ≡ true → is_opening m ≡ false
 closing_no_opening marks.RightParen h = refl
@@ -242,22 +242,22 @@ closing_item before m gs ps all h k high e within (next_piece more rest f g clea
     let xs = items (parted before).rest in
     let bounds = within_here before (kinds.Mark m) (mark_text m) rest all (e ∙ ap (λ t. before ++ t) f) within in
     let P : List ℕ → Type 0 = λ t. All (λ n. n ≤ 100) t in
-    one_more (closed xs) [] (subst P (closed_items xs m h k) bounds.1) high
+    one_more (closed xs) (subst P (closed_items xs m h k) bounds.1) high
 
 abbrev NoEnd : List Glyph → Type 0
 NoEnd gs = (m : Mark) → BeginsWith (mark_text m) gs → IsLongest (mark_text m) gs → (is_separator m ≡ false) × (is_closing m ≡ false)
 
 other_kind : (xs : List ℕ) (kind : TokenKind) (text : List ℕ) (more gs : List Glyph) → Writes kind text → IsLongest text (map Char text ++ more) → gs ≡ map Char text ++ more → NoEnd gs
     → All (λ n. n ≤ 100) (items_behind xs (Tok kind text)) → 100 ≤ slice_index xs 0 → ⊥
-other_kind xs (kinds.Word name) text more gs h longest e none all high = one_more xs [] all high
-other_kind xs (kinds.Keyword k) text more gs h longest e none all high = one_more xs [] all high
-other_kind xs (kinds.Number n) text more gs h longest e none all high = one_more xs [] all high
-other_kind xs (kinds.Quoted t) text more gs h longest e none all high = one_more xs [] all high
+other_kind xs (kinds.Word name) text more gs h longest e none all high = one_more xs all high
+other_kind xs (kinds.Keyword k) text more gs h longest e none all high = one_more xs all high
+other_kind xs (kinds.Number n) text more gs h longest e none all high = one_more xs all high
+other_kind xs (kinds.Quoted t) text more gs h longest e none all high = one_more xs all high
 other_kind xs (kinds.Mark m) text more gs h longest e none all high =
     let P : List Glyph → Type 0 = λ t. IsLongest text t in
     let Q : List ℕ → Type 0 = λ t. IsLongest t gs in
     let tests = none m (more, e ∙ ap (λ t. map Char t ++ more) h) (subst Q h (subst P (sym e) longest)) in
-    one_more xs [] (counted_items xs m (is_opening m) tests.0 tests.1 refl all) high
+    one_more xs (counted_items xs m (is_opening m) tests.0 tests.1 refl all) high
 other_kind xs _ text more gs h longest e none all high = absurd h
 
 other_item : (before : List Piece) (gs : List Glyph) (ps all : List Piece) → NoEnd gs → 100 ≤ slice_index (items (parted before).rest) 0 → all ≡ before ++ ps

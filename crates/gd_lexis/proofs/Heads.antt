@@ -47,7 +47,7 @@ token_from c vs gs ps e none (front (Tok kind text) more rest h k s b) = token_f
 pub token_front_of : (c : ℕ) (vs gs : List Glyph) (ps : List Piece) → gs ≡ Char c ∷ vs → (IsGap c → ⊥) → IsCut gs ps [] → TokenFront gs ps
 token_front_of c vs gs ps e none h = token_from c vs gs ps e none (front_of (Char c) vs gs ps e h)
 
--- with which characters tokens begin, and that no piece but a token begins so
+-- two tokens that are the longest at one place are one
 same_token : (k l : TokenKind) (text other : List ℕ) (us vs gs : List Glyph) (ps : List Piece) → Writes k text → IsLongest text gs → gs ≡ map Char text ++ us
     → Writes l other → IsLongest other (map Char other ++ vs) → gs ≡ map Char other ++ vs → Tok k text ≡ Tok l other
 same_token k l text other us vs gs ps h longest e i longest' f =
@@ -107,7 +107,7 @@ code_of c (inr (inr h)) = inr (inr (inr (mark_code h.0 c h.1 h.2)))
 pub token_code : (gs : List Glyph) → BeginsToken gs → (c : ℕ) × (vs : List Glyph) × (gs ≡ Char c ∷ vs) × IsTokenCode c
 token_code gs h = (h.0, h.2.0, h.2.1, code_of h.0 h.1)
 
--- ---- a token begins with such a character
+-- ---- where a token stands, one begins
 
 word_start : (c : ℕ) → IsTrue (is_xid_start c || (c == 95)) → IsTrue (((is_xid_start c || (c == 95)) || (c == 34)) || (c == 39))
 word_start c h = or_left ((is_xid_start c || (c == 95)) || (c == 34)) (c == 39) (or_left (is_xid_start c || (c == 95)) (c == 34) h)
@@ -132,7 +132,6 @@ quote_start c d (inl (inl h)) = or_left ((is_xid_start c || (c == 95)) || (c == 
 quote_start c d (inl (inr h)) = or_right ((is_xid_start c || (c == 95)) || (c == 34)) (c == 39) (eq-eqb c 39 h)
 quote_start c d (inr h) = word_start c (lower_start c (omega arith))
 
--- a token begins with such a character
 pub begins_token : (kind : TokenKind) (text : List ℕ) (more gs : List Glyph) → Writes kind text → gs ≡ map Char text ++ more → BeginsToken gs
 begins_token (kinds.Word name) text more gs h e = named text more gs h.0 e
 begins_token (kinds.Keyword k) text more gs h e =

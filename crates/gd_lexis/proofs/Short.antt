@@ -1,4 +1,6 @@
 -- Short files keep the bounds on lines.
+use Rattle.gd_syntax.specs.declared.token.Mark.TheVariants as marks
+use Rattle.gd_syntax.specs.declared.token.Mark.{Mark}
 use Rattle.std.proofs.Common.{◌≡◌, ◌≢◌, ℕ, ◌+◌, ◌-◌, ◌≤◌, Bool, true, false, List, [], ◌∷◌, ◌++◌, length, map, fold, refl, ap, sym, ◌∙◌, subst, inl, inr, arith, if◌then◌else◌, length-append, true≢false}
 use Rattle.std.specs.Prelude.{◌⊎◌, All}
 use Rattle.std.specs.Int.{IsInRange}
@@ -11,7 +13,7 @@ use Rattle.gd_syntax.specs.declared.token.TokenKind.{TokenKind}
 use Rattle.gd_syntax.specs.declared.token.TokenKind.TheVariants as kinds
 use Rattle.gd_lexis.specs.declared.glyph.Glyph.{Glyph}
 use Rattle.gd_lexis.specs.declared.glyph.Glyph.TheVariants.{Char}
-use Rattle.gd_lexis.specs.Words.{GoesOn}
+use Rattle.gd_lexis.specs.Words.{GoesOn, mark_text}
 use Rattle.gd_lexis.specs.Numbers.{AreDigits, IsDigit, WritesNumber, WritesDecimal}
 use Rattle.gd_lexis.specs.Pieces.{Piece, Blank, LineFeed, Join, Comment, Tok, Writes, IsLongest}
 use Rattle.gd_lexis.specs.Lines.{level_behind, is_logical, depth, blocks_behind, is_opening, is_closing}
@@ -19,7 +21,7 @@ use Rattle.gd_lexis.specs.Items.{items, items_behind, is_separator, counted, clo
 use Rattle.gd_lexis.specs.Lexes.{IsWithin, IsMatched, AreBlocks}
 use Rattle.gd_lexis.proofs.Lists.{cons_parts}
 use Rattle.gd_lexis.proofs.Digits.{second_digit}
-use Rattle.gd_lexis.proofs.Tokens.{BeginsName, BeginsString, BeginsMark, token_begins, same_begin, IsLetter, keyword_letters, two_letters, range_from}
+use Rattle.gd_lexis.proofs.Tokens.{BeginsName, BeginsString, BeginsMark, token_begins, same_begin, IsLetter, keyword_letters, two_letters, range_from, is_mark_front}
 use Rattle.gd_lexis.proofs.Cuts.{char_parts}
 use Rattle.gd_lexis.proofs.Heads.{begins_at}
 
@@ -175,3 +177,77 @@ one_longest d us h k (x ∷ y ∷ more) kind less begins w =
     let P : ℕ → Type 0 = λ z. Writes kind (z ∷ y ∷ more) in
     let Q : ℕ → Type 0 = λ z. Writes kind (49 ∷ z ∷ more) in
     not_one kind d more h k (subst Q (sym seconds.0) (subst P (sym heads.0) w))
+
+-- behind its first character no mark has a character that begins none
+abbrev goes_on_marked : List ℕ → Bool
+goes_on_marked [] = true
+goes_on_marked (c ∷ []) = true
+goes_on_marked (c ∷ d ∷ cs) = is_mark_front (d ∷ cs)
+
+marked_on : (m : Mark) → goes_on_marked (mark_text m) ≡ true
+marked_on marks.Plus = refl
+marked_on marks.Minus = refl
+marked_on marks.Star = refl
+marked_on marks.Slash = refl
+marked_on marks.Percent = refl
+marked_on marks.StarStar = refl
+marked_on marks.Tilde = refl
+marked_on marks.Ampersand = refl
+marked_on marks.Bar = refl
+marked_on marks.Caret = refl
+marked_on marks.ShiftLeft = refl
+marked_on marks.ShiftRight = refl
+marked_on marks.EqualEqual = refl
+marked_on marks.BangEqual = refl
+marked_on marks.Less = refl
+marked_on marks.Greater = refl
+marked_on marks.LessEqual = refl
+marked_on marks.GreaterEqual = refl
+marked_on marks.AndAnd = refl
+marked_on marks.OrOr = refl
+marked_on marks.Bang = refl
+marked_on marks.Equal = refl
+marked_on marks.PlusEqual = refl
+marked_on marks.MinusEqual = refl
+marked_on marks.StarEqual = refl
+marked_on marks.SlashEqual = refl
+marked_on marks.PercentEqual = refl
+marked_on marks.StarStarEqual = refl
+marked_on marks.ShiftLeftEqual = refl
+marked_on marks.ShiftRightEqual = refl
+marked_on marks.AmpersandEqual = refl
+marked_on marks.BarEqual = refl
+marked_on marks.CaretEqual = refl
+marked_on marks.Arrow = refl
+marked_on marks.Dot = refl
+marked_on marks.DotDot = refl
+marked_on marks.Colon = refl
+marked_on marks.Comma = refl
+marked_on marks.Semicolon = refl
+marked_on marks.LeftParen = refl
+marked_on marks.RightParen = refl
+marked_on marks.LeftBracket = refl
+marked_on marks.RightBracket = refl
+marked_on marks.LeftBrace = refl
+marked_on marks.RightBrace = refl
+marked_on marks.At = refl
+marked_on marks.Dollar = refl
+
+no_mark_on : (kind : TokenKind) (c : ℕ) (more : List ℕ) → IsInRange 40 41 c → Writes kind (c ∷ 10 ∷ more) → ⊥
+no_mark_on (kinds.Word name) c more h w = let b = begins_at (kinds.Word name) (c ∷ 10 ∷ more) [] (map Char (10 ∷ more) ++ []) c w refl in let f : BeginsName c b.0 = b.1 in omega arith
+no_mark_on (kinds.Keyword x) c more h w = let b = begins_at (kinds.Keyword x) (c ∷ 10 ∷ more) [] (map Char (10 ∷ more) ++ []) c w refl in let f : BeginsName c b.0 = b.1 in omega arith
+no_mark_on (kinds.Number n) c more h w = let b = begins_at (kinds.Number n) (c ∷ 10 ∷ more) [] (map Char (10 ∷ more) ++ []) c w refl in let f : IsInRange 48 57 c = b.1 in omega arith
+no_mark_on (kinds.Quoted t) c more h w = let b = begins_at (kinds.Quoted t) (c ∷ 10 ∷ more) [] (map Char (10 ∷ more) ++ []) c w refl in let f : BeginsString c b.0 = b.1 in omega arith
+no_mark_on (kinds.Mark m) c more h w = true≢false (sym (ap goes_on_marked w ∙ marked_on m))
+no_mark_on _ c more h w = absurd w
+
+-- a bracket is the longest token before a line feed
+pub mark_longest : (c : ℕ) (us : List Glyph) → IsInRange 40 41 c → IsLongest (c ∷ []) (Char c ∷ Char 10 ∷ us)
+mark_longest c us h [] kind less begins w = omega arith
+mark_longest c us h (x ∷ []) kind less begins w = omega arith
+mark_longest c us h (x ∷ y ∷ more) kind less begins w =
+    let heads = char_parts c x (Char 10 ∷ us) (Char y ∷ map Char more ++ begins.0) begins.1 in
+    let seconds = char_parts 10 y us (map Char more ++ begins.0) heads.1 in
+    let P : ℕ → Type 0 = λ z. Writes kind (z ∷ y ∷ more) in
+    let Q : ℕ → Type 0 = λ z. Writes kind (c ∷ z ∷ more) in
+    no_mark_on kind c more h (subst Q (sym seconds.0) (subst P (sym heads.0) w))

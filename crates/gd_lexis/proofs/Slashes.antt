@@ -23,9 +23,6 @@ data Going (q : Quote) (cs : List ℕ) : Type 0 where
 abbrev Left : Quote → List ℕ → List Glyph → List Glyph
 Left q cs more = map Char cs ++ (map Char (closing q) ++ more)
 
-parts : (c d : ℕ) (us vs : List Glyph) → Char c ∷ us ≡ Char d ∷ vs → (c ≡ d) × (us ≡ vs)
-parts = char_parts
-
 glyph_tail : (g h : Glyph) (us vs : List Glyph) → g ∷ us ≡ h ∷ vs → us ≡ vs
 glyph_tail g h us vs e = cc
 
@@ -46,8 +43,8 @@ data Slash (q : Quote) (cs : List ℕ) : Type 0 where
 
 slash_part : (q : Quote) (cs front rest s t : List ℕ) (us more : List Glyph) → q.is_raw ≡ false → cs ≡ front ++ rest → Part q rest front s → Body q rest t → Char 92 ∷ us ≡ map Char front ++ Left q rest more
     → Slash q cs
-slash_part q cs front rest s t us more r e (a_plain c h k l) b f = absurd (h (sym (parts 92 c us (Left q rest more) f).0))
-slash_part q cs front rest s t us more r e a_line_end b f = let code = (parts 92 13 us (Char 10 ∷ Left q rest more) f).0 in absurd (omega (arith, code))
+slash_part q cs front rest s t us more r e (a_plain c h k l) b f = absurd (h (sym (char_parts 92 c us (Left q rest more) f).0))
+slash_part q cs front rest s t us more r e a_line_end b f = let code = (char_parts 92 13 us (Char 10 ∷ Left q rest more) f).0 in absurd (omega (arith, code))
 slash_part q cs front rest s t us more r e (an_escape x y h k) b f = slash x y rest t k e b
 slash_part q cs front rest s t us more r e (a_kept c h k) b f = absurd (not_both q.is_raw h r)
 slash_part q cs front rest s t us more r e (a_kept_line_end h) b f = absurd (not_both q.is_raw h r)
@@ -58,7 +55,7 @@ slash_parted q cs t us more h r (first front s rest u e f p b) g = slash_part q 
 
 at_slash : (q : Quote) (cs : List ℕ) (us more : List Glyph) → IsQuote q → q.is_raw ≡ false → Going q cs → Char 92 ∷ us ≡ Left q cs more → Slash q cs
 at_slash q cs us more h r (at t b) e = slash_parted q cs t us more h r (parts_of q b) e
-at_slash q cs us more h r (half ds t f b) e = let code = (parts 92 10 us (Left q ds more) (e ∙ ap (λ x. Left q x more) f)).0 in absurd (omega (arith, code))
+at_slash q cs us more h r (half ds t f b) e = let code = (char_parts 92 10 us (Left q ds more) (e ∙ ap (λ x. Left q x more) f)).0 in absurd (omega (arith, code))
 
 -- ---- at another glyph the body goes on behind it
 
@@ -88,7 +85,7 @@ longer : (e f : List ℕ) (us vs : List Glyph) → map Char e ++ us ≡ map Char
 longer [] f us vs h = inl (f, refl)
 longer (c ∷ e) [] us vs h = inr (c ∷ e, refl)
 longer (c ∷ e) (d ∷ f) us vs h =
-    let heads = parts c d (map Char e ++ us) (map Char f ++ vs) h in
+    let heads = char_parts c d (map Char e ++ us) (map Char f ++ vs) h in
     let head : c ≡ d = heads.0 in
     again c d e f head (longer e f us vs heads.1)
   where
@@ -151,8 +148,8 @@ raw_other q cs g us more r n l (at t b) e = raw_parted q cs t g us more r n l (p
 raw_other q cs g us more r n l (half ds t f b) e = (ds, at t b, glyph_tail g (Char 10) us (Left q ds more) (e ∙ ap (λ x. Left q x more) f))
 
 raw_taken : (q : Quote) (front rest s t : List ℕ) (g : Glyph) (us more : List Glyph) → q.is_raw ≡ true → Part q rest front s → Body q rest t → Char 92 ∷ g ∷ us ≡ map Char front ++ Left q rest more → Behind q us more
-raw_taken q front rest s t g us more r (a_plain c h k l) b f = absurd (h (sym (parts 92 c (g ∷ us) (Left q rest more) f).0))
-raw_taken q front rest s t g us more r a_line_end b f = let code = (parts 92 13 (g ∷ us) (Char 10 ∷ Left q rest more) f).0 in absurd (omega (arith, code))
+raw_taken q front rest s t g us more r (a_plain c h k l) b f = absurd (h (sym (char_parts 92 c (g ∷ us) (Left q rest more) f).0))
+raw_taken q front rest s t g us more r a_line_end b f = let code = (char_parts 92 13 (g ∷ us) (Char 10 ∷ Left q rest more) f).0 in absurd (omega (arith, code))
 raw_taken q front rest s t g us more r (an_escape x y h k) b f = absurd (not_both q.is_raw r h)
 raw_taken q front rest s t g us more r (a_kept c h k) b f = (rest, at t b, glyph_tail g (Char c) us (Left q rest more) (glyph_tail (Char 92) (Char 92) (g ∷ us) (Char c ∷ Left q rest more) f))
 raw_taken q front rest s t g us more r (a_kept_line_end h) b f =
@@ -164,7 +161,7 @@ taken_parted q cs t g us more h r (first front s rest u e f p b) i = raw_taken q
 
 taken_on : (q : Quote) (cs : List ℕ) (g : Glyph) (us more : List Glyph) → IsQuote q → q.is_raw ≡ true → Going q cs → Char 92 ∷ g ∷ us ≡ Left q cs more → Behind q us more
 taken_on q cs g us more h r (at t b) e = taken_parted q cs t g us more h r (parts_of q b) e
-taken_on q cs g us more h r (half ds t f b) e = let code = (parts 92 10 (g ∷ us) (Left q ds more) (e ∙ ap (λ x. Left q x more) f)).0 in absurd (omega (arith, code))
+taken_on q cs g us more h r (half ds t f b) e = let code = (char_parts 92 10 (g ∷ us) (Left q ds more) (e ∙ ap (λ x. Left q x more) f)).0 in absurd (omega (arith, code))
 
 -- no end stands inside, so what follows the token's end is no longer than what follows the string's
 ends_no_later : (q : Quote) (end more : List Glyph) (cs : List ℕ) {body : List Glyph} → IsQuote q → q.is_raw ≡ true → Inside q end body → Going q cs → body ++ end ≡ Left q cs more

@@ -131,9 +131,6 @@ data RawFront (m : ℕ) (us : List Glyph) : Type 0 where
   raw_front : QuotedFront (Char 114 ∷ Char m ∷ us) → RawFront m us
   apart : QuotedFront (Char m ∷ us) → RawFront m us
 
-no_second : (m d : ℕ) → IsMark m → BeginsName 114 d → m ≢ d
-no_second m d h k e = omega arith
-
 -- a name that begins with `r` before a quote is `r`
 r_alone : (m : ℕ) (us more : List Glyph) (text : List ℕ) (rest : List Piece) → IsMark m → (c : ℕ) (tail : List ℕ) → text ≡ c ∷ tail → BeginsName c (next tail) → map Char text ++ more ≡ Char 114 ∷ Char m ∷ us
     → IsCut more rest [] → RawFront m us

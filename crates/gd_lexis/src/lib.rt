@@ -17,7 +17,7 @@ ghost use Rattle.gd_lexis.specs.Pieces.{Writes};
 ghost use Rattle.gd_syntax.specs.declared.token.Token.{Token};
 ghost use Rattle.gd_lexis.specs.Lexes.{Lexes};
 ghost use Rattle.gd_lexis.specs.Faults.{FirstFault, IsBroken, number};
-ghost use Rattle.gd_lexis.specs.Trials.{OneBlock, OneFloat, OneMark, OneName, OneString};
+ghost use Rattle.gd_lexis.specs.Trials.{OneBracketed, OneComment, OneFloat, OneMark, OneMarked, OneName, OnePair, OneString, TwoBlocks};
 
 mod glyph;
 
@@ -77,6 +77,10 @@ pub fn trials()
     ensures name { OneName }
     ensures mark { OneMark }
     ensures string { OneString }
-    ensures block { OneBlock }
+    ensures pair { OnePair }
+    ensures marked { OneMarked }
+    ensures blocks { TwoBlocks }
+    ensures bracketed { OneBracketed }
+    ensures comment { OneComment }
     ensures float { OneFloat }
 {}
