@@ -19,3 +19,4 @@ pub mod Faultless
 pub mod Short
 pub mod Samples
 pub mod SampleFault
+pub mod Counts

@@ -2,7 +2,7 @@
 //! specs/, and the functions here are laws about them.
 #![tactic(auto)]
 
-ghost use Rattle.std.specs.Prelude.{◌≡◌, List, ℕ};
+ghost use Rattle.std.specs.Prelude.{◌≡◌, List, length, ℕ, ◌*◌, ◌+◌, ◌≤◌};
 ghost use Rattle.gd_syntax.specs.declared.token.Keyword.{Keyword};
 ghost use Rattle.gd_syntax.specs.declared.token.Mark.{Mark};
 ghost use Rattle.gd_lexis.specs.declared.glyph.Glyph.{Glyph};
@@ -70,6 +70,11 @@ pub fn one_token_list()
 /// A file with tokens breaks no rule.
 pub fn no_fault_beside_tokens()
     ensures { (file : ℕ) (bytes : List ℕ) (tokens : List Token) (rule : Rule) (at : Pos) → Lexes file bytes tokens → IsBroken file bytes rule at → ⊥ }
+{}
+
+/// A file has at most four tokens for each byte, and End.
+pub fn token_bound()
+    ensures { (file : ℕ) (bytes : List ℕ) (tokens : List Token) → Lexes file bytes tokens → length tokens ≤ 4 * length bytes + 1 }
 {}
 
 /// Short files, with their tokens or their first fault.
