@@ -7,3 +7,4 @@ pub mod Lines
 pub mod Items
 pub mod Lexes
 pub mod Faults
+pub mod Trials

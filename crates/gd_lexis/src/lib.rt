@@ -2,7 +2,7 @@
 //! specs/, and the functions here are laws about them.
 #![tactic(auto)]
 
-ghost use Rattle.std.specs.Prelude.{◌≡◌, List, ℕ};
+ghost use Rattle.std.specs.Prelude.{◌≡◌, List, length, ℕ, ◌*◌, ◌+◌, ◌≤◌};
 ghost use Rattle.gd_syntax.specs.declared.token.Keyword.{Keyword};
 ghost use Rattle.gd_syntax.specs.declared.token.Mark.{Mark};
 ghost use Rattle.gd_lexis.specs.declared.glyph.Glyph.{Glyph};
@@ -10,7 +10,18 @@ ghost use Rattle.gd_lexis.specs.Chars.{Reads};
 ghost use Rattle.gd_syntax.specs.declared.pos.Pos.{Pos};
 ghost use Rattle.gd_model.specs.declared.rule.Rule.{Rule};
 ghost use Rattle.gd_lexis.specs.Words.{keyword_text, mark_text};
-ghost use Rattle.gd_lexis.specs.Faults.{FirstFault, number};
+ghost use Rattle.gd_lexis.specs.Numbers.{WritesNumber};
+ghost use Rattle.gd_lexis.specs.Strings.{WritesString};
+ghost use Rattle.gd_syntax.specs.declared.token.TokenKind.{TokenKind};
+ghost use Rattle.gd_lexis.specs.Pieces.{Writes};
+ghost use Rattle.gd_syntax.specs.declared.token.Token.{Token};
+ghost use Rattle.gd_lexis.specs.Lexes.{Lexes};
+ghost use Rattle.gd_lexis.specs.Faults.{FirstFault, IsBroken, number};
+ghost use Rattle.gd_lexis.specs.Trials.{OneBracketed, OneComment, OneFloat, OneMark, OneMarked, OneName, OnePair, OneString, TwoBlocks};
+
+mod glyph;
+
+pub use glyph::Glyph;
 
 mod glyph;
 
@@ -38,4 +49,47 @@ pub fn one_mark()
 pub fn one_first_fault()
     ensures { (file : ℕ) (bytes : List ℕ) (at : Pos) (place : Pos) (rule : Rule) (other : Rule)
         → FirstFault file bytes at rule → FirstFault file bytes place other → (at ≡ place) × (number rule ≡ number other) }
+{}
+
+/// A text writes at most one number.
+pub fn one_number()
+    ensures { (text : List ℕ) (m : ℕ) (n : ℕ) → WritesNumber text m → WritesNumber text n → m ≡ n }
+{}
+
+/// A text writes at most one string.
+pub fn one_string()
+    ensures { (text : List ℕ) (t : List ℕ) (u : List ℕ) → WritesString text t → WritesString text u → t ≡ u }
+{}
+
+/// A text writes a token of at most one kind.
+pub fn one_kind()
+    ensures { (k : TokenKind) (l : TokenKind) (text : List ℕ) → Writes k text → Writes l text → k ≡ l }
+{}
+
+/// A file has at most one list of tokens.
+pub fn one_token_list()
+    ensures { (file : ℕ) (bytes : List ℕ) (tokens : List Token) (others : List Token) → Lexes file bytes tokens → Lexes file bytes others → tokens ≡ others }
+{}
+
+/// A file with tokens breaks no rule.
+pub fn no_fault_beside_tokens()
+    ensures { (file : ℕ) (bytes : List ℕ) (tokens : List Token) (rule : Rule) (at : Pos) → Lexes file bytes tokens → IsBroken file bytes rule at → ⊥ }
+{}
+
+/// A file has at most four tokens for each byte, and End.
+pub fn token_bound()
+    ensures { (file : ℕ) (bytes : List ℕ) (tokens : List Token) → Lexes file bytes tokens → length tokens ≤ 4 * length bytes + 1 }
+{}
+
+/// Short files, with their tokens or their first fault.
+pub fn trials()
+    ensures name { OneName }
+    ensures mark { OneMark }
+    ensures string { OneString }
+    ensures pair { OnePair }
+    ensures marked { OneMarked }
+    ensures blocks { TwoBlocks }
+    ensures bracketed { OneBracketed }
+    ensures comment { OneComment }
+    ensures float { OneFloat }
 {}
