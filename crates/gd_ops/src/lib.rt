@@ -1,6 +1,7 @@
 //! Operators, builtins and printed forms (docs/runtime.md).
 #![tactic(auto)]
 
+mod array_methods;
 mod builtin;
 mod equality;
 mod fresh;

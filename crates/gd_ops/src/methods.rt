@@ -1,10 +1,10 @@
 //! The methods of Strings, Arrays and Dictionaries that do not write.
+use crate::array_methods::call_on_array;
 use crate::builtin::Builtin;
 use crate::equality::{never_comes, same};
 use crate::fresh::{Fresh, boolean, int, refused};
 use crate::misfit::misfit;
-use crate::operators::first_place;
-use crate::text_methods::{call_on_text, found};
+use crate::text_methods::call_on_text;
 use gd_containers::{Look, OrderedDict, ThingFault, TypedArray, key_of};
 use gd_model::{Key, RunFault, Ty, Value};
 use std::alloc::Global;
@@ -19,7 +19,7 @@ pub fn call_method<K: Look>(
     match args {
         [Value::Str(receiver), rest @ ..] => call_on_text(alloc, method, receiver, rest, look),
         [Value::Array(h), rest @ ..] => match look.array(*h) {
-            Some(receiver) => on_array(alloc, method, receiver, rest, look),
+            Some(receiver) => call_on_array(alloc, method, receiver, rest, look),
             None => Err(never_comes()),
         },
         [Value::Dict(h), rest @ ..] => match look.dict(*h) {
@@ -28,66 +28,6 @@ pub fn call_method<K: Look>(
         },
         _ => refused(RunFault::WrongNumberOfArguments),
     }
-}
-
-fn on_array<K: Look>(
-    alloc: Global,
-    method: Builtin,
-    a: &TypedArray,
-    args: &[Value],
-    look: &K,
-) -> Result<Fresh, ThingFault> {
-    match (method, args) {
-        (Builtin::ArraySize, []) => int(i64::from(a.size())),
-        (Builtin::ArrayIsEmpty, []) => boolean(a.size() == 0),
-        (Builtin::ArrayIsReadOnly, []) => boolean(a.fixed()),
-        (Builtin::ArrayFront, []) => item_or_null(a, 0),
-        (Builtin::ArrayBack, []) => item_or_null(a, -1),
-        (Builtin::ArrayDuplicate, []) => slice(alloc, a, 0, i64::MAX),
-        (Builtin::ArraySlice, [Value::Int(from)]) => slice(alloc, a, *from, 2_147_483_647),
-        (Builtin::ArraySlice, [Value::Int(from), Value::Int(to)]) => slice(alloc, a, *from, *to),
-        (Builtin::ArrayHas, [v]) => boolean(first_place(a, v, 0, look)?.is_some()),
-        (Builtin::ArrayCount, [v]) => count(a, v, look),
-        (Builtin::ArrayFind, [v]) => place(a, v, 0, look),
-        (Builtin::ArrayFind, [v, Value::Int(from)]) => place(a, v, *from, look),
-        (Builtin::ArraySize, _)
-        | (Builtin::ArrayIsEmpty, _)
-        | (Builtin::ArrayIsReadOnly, _)
-        | (Builtin::ArrayFront, _)
-        | (Builtin::ArrayBack, _)
-        | (Builtin::ArrayDuplicate, _) => misfit(args, 0, 0),
-        (Builtin::ArraySlice, _) | (Builtin::ArrayFind, _) => misfit(args, 1, 2),
-        (Builtin::ArrayHas, _) | (Builtin::ArrayCount, _) => misfit(args, 1, 1),
-        _ => refused(RunFault::NoSuchMethod),
-    }
-}
-
-fn item_or_null(a: &TypedArray, at: i64) -> Result<Fresh, ThingFault> {
-    match a.get(at) {
-        Ok(v) => Ok(Fresh::Value(v.share()?)),
-        Err(_) => Ok(Fresh::Value(Value::Nil)),
-    }
-}
-
-fn slice(alloc: Global, a: &TypedArray, from: i64, to: i64) -> Result<Fresh, ThingFault> {
-    Ok(Fresh::Array(a.slice(alloc, from, to)?))
-}
-
-fn place<K: Look>(a: &TypedArray, v: &Value, from: i64, look: &K) -> Result<Fresh, ThingFault> {
-    match u32::try_from(from) {
-        Ok(from) => found(first_place(a, v, from, look)?),
-        Err(_) => int(-1),
-    }
-}
-
-fn count<K: Look>(a: &TypedArray, v: &Value, look: &K) -> Result<Fresh, ThingFault> {
-    let mut all = 0i64;
-    for item in a.items() {
-        if same(item, v, look)? {
-            all = all.saturating_add(1);
-        }
-    }
-    int(all)
 }
 
 fn on_dict<K: Look>(
