@@ -14,7 +14,7 @@ use Rattle.gd_model.specs.Thing.{ArrayThing, DictThing, value_at, with_pair}
 use Rattle.gd_containers.specs.Answers.{item_at}
 use Rattle.gd_containers.specs.Keys.{key_value}
 use Rattle.gd_containers.specs.declared.fault.ThingFault.{ThingFault}
-use Rattle.gd_containers.specs.declared.fault.ThingFault.TheVariants.{NoMemory}
+use Rattle.gd_containers.specs.declared.fault.ThingFault.TheVariants.{Run, NoMemory}
 use Rattle.gd_text.specs.Number.{is_valid_int, to_int}
 use Rattle.gd_text.specs.Search.{find, replaced, split}
 use Rattle.gd_text.specs.Text.{left, right, repeated, substr, stripped}
@@ -206,23 +206,27 @@ arrays_call things b.ArrayFind a args = and_then (value_and_maybe args) (place_g
 arrays_call things method a args = Some (Err NoSuchMethod)
 
 -- the keys and the values of a dictionary as arrays
-abbrev pub keys_array : DictThing → ArrayThing
-keys_array d = record { element = ty.Variant; fixed = false; items = map (λ p. key_value p.0) d.pairs }
+abbrev pub keys_array : List (Key × Value) → ArrayThing
+keys_array ps = record { element = ty.Variant; fixed = false; items = map (λ p. key_value p.0) ps }
 
-abbrev pub values_array : DictThing → ArrayThing
-values_array d = record { element = ty.Variant; fixed = false; items = map (λ p. p.1) d.pairs }
+abbrev pub values_array : List (Key × Value) → ArrayThing
+values_array ps = record { element = ty.Variant; fixed = false; items = map (λ p. p.1) ps }
+
+-- the pairs once these are put one by one
+abbrev pub put_all : List (Key × Value) → List (Key × Value) → List (Key × Value)
+put_all old ps = fold (λ qs p. with_pair qs p.0 p.1) old ps
 
 -- a writable dictionary of the same types, into which the pairs are put one by one
 abbrev pub dict_copy : DictThing → DictThing
-dict_copy d = record d { fixed = false; pairs = fold (λ ps p. with_pair ps p.0 p.1) [] d.pairs }
+dict_copy d = record d { fixed = false; pairs = put_all [] d.pairs }
 
 -- the methods of a Dictionary without arguments
 abbrev pub dict_alone : Builtin → DictThing → Option (Result Fresh RunFault)
 dict_alone b.DictionarySize d = Some (Ok (int_made (pos (length d.pairs))))
 dict_alone b.DictionaryIsEmpty d = Some (Ok (bool_made (length d.pairs == 0)))
 dict_alone b.DictionaryIsReadOnly d = Some (Ok (bool_made d.fixed))
-dict_alone b.DictionaryKeys d = Some (Ok (MadeArray (keys_array d)))
-dict_alone b.DictionaryValues d = Some (Ok (MadeArray (values_array d)))
+dict_alone b.DictionaryKeys d = Some (Ok (MadeArray (keys_array d.pairs)))
+dict_alone b.DictionaryValues d = Some (Ok (MadeArray (values_array d.pairs)))
 dict_alone b.DictionaryDuplicate d = Some (Ok (MadeDict (dict_copy d)))
 dict_alone method d = Some (Err NoSuchMethod)
 
@@ -245,6 +249,12 @@ abbrev pub first_key : (Value → Option (Result Bool RunFault)) → List (Key �
 first_key test [] = Some (Ok v.Nil)
 first_key test (p ∷ ps) = and_then (test p.1) (λ yes. if yes then Some (Ok (key_value p.0)) else first_key test ps)
 
+abbrev pub has_key_gives : DictThing → Value → Option (Result Fresh RunFault)
+has_key_gives d v = with_key (as_key v) (λ k. Some (Ok (bool_made (is_some (value_at d.pairs k)))))
+
+abbrev pub find_key_gives : (Handle → Option Thing) → DictThing → Value → Option (Result Fresh RunFault)
+find_key_gives things d v = in_form Made (first_key (λ x. same things x v) d.pairs)
+
 -- the methods of a Dictionary
 abbrev pub dicts_call : (Handle → Option Thing) → Builtin → DictThing → List Value → Option (Result Fresh RunFault)
 dicts_call things b.DictionarySize d args = alone (dict_alone b.DictionarySize d) args
@@ -253,7 +263,28 @@ dicts_call things b.DictionaryIsReadOnly d args = alone (dict_alone b.Dictionary
 dicts_call things b.DictionaryKeys d args = alone (dict_alone b.DictionaryKeys d) args
 dicts_call things b.DictionaryValues d args = alone (dict_alone b.DictionaryValues d) args
 dicts_call things b.DictionaryDuplicate d args = alone (dict_alone b.DictionaryDuplicate d) args
-dicts_call things b.DictionaryHas d args = and_then (one_value args) (λ v. with_key (as_key v) (λ k. Some (Ok (bool_made (is_some (value_at d.pairs k))))))
+dicts_call things b.DictionaryHas d args = and_then (one_value args) (has_key_gives d)
 dicts_call things b.DictionaryGet d args = and_then (key_and_maybe args) (value_or d)
-dicts_call things b.DictionaryFindKey d args = and_then (one_value args) (λ v. in_form Made (first_key (λ x. same things x v) d.pairs))
+dicts_call things b.DictionaryFindKey d args = and_then (one_value args) (find_key_gives things d)
 dicts_call things method d args = Some (Err NoSuchMethod)
+
+abbrev pub ArrayCallGives : (Handle → Option Thing) → Builtin → Option ArrayThing → List Value → Result Fresh ThingFault → Type 0
+ArrayCallGives things method None args r = r ≡ Err NoMemory
+ArrayCallGives things method (Some a) args r = Answers (arrays_call things method a args) r
+
+abbrev pub DictCallGives : (Handle → Option Thing) → Builtin → Option DictThing → List Value → Result Fresh ThingFault → Type 0
+DictCallGives things method None args r = r ≡ Err NoMemory
+DictCallGives things method (Some d) args r = Answers (dicts_call things method d args) r
+
+-- a method by its receiver
+abbrev pub ReceiverGives : (Handle → Option Thing) → (ℕ → Option (List ℕ)) → Builtin → Value → List Value → Result Fresh ThingFault → Type 0
+ReceiverGives things names method (v.Str a) args r = TextCallGives things names method a args r
+ReceiverGives things names method (v.Array h) args r = ArrayCallGives things method (array_behind (things h)) args r
+ReceiverGives things names method (v.Dict h) args r = DictCallGives things method (dict_behind (things h)) args r
+ReceiverGives things names method v.Nil args r = r ≡ Err (Run NullReceiver)
+ReceiverGives things names method other args r = r ≡ Err (Run NoSuchMethod)
+
+-- a method, its receiver being the first argument
+abbrev pub MethodGives : (Handle → Option Thing) → (ℕ → Option (List ℕ)) → Builtin → List Value → Result Fresh ThingFault → Type 0
+MethodGives things names method [] r = r ≡ Err (Run WrongNumberOfArguments)
+MethodGives things names method (receiver ∷ args) r = ReceiverGives things names method receiver args r

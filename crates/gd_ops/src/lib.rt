@@ -3,6 +3,7 @@
 
 mod array_methods;
 mod builtin;
+mod dict_methods;
 mod equality;
 mod fresh;
 mod functions;
