@@ -35,3 +35,9 @@ pub given_and_then : {A B : Type 0} → (more : A → Option (Result B RunFault)
 given_and_then more None x e = cc
 given_and_then more (Some (Err g)) x e = cc
 given_and_then more (Some (Ok y)) x e = let same : x ≡ y = cc in ap (λ z. exact (more z)) same
+
+-- what is meant where a call gave x
+pub meant : {A : Type 0} → (want : Option (Result A RunFault)) (x : A) → Ok x ≡ exact want → want ≡ Some (Ok x)
+meant None x e = cc
+meant (Some (Err f)) x e = cc
+meant (Some (Ok y)) x e = let same : y ≡ x = cc in ap (λ z. Some (Ok z)) same

@@ -2,3 +2,4 @@ pub mod Equal
 pub mod Answer
 pub mod Printed
 pub mod TextAnswers
+pub mod Pairs

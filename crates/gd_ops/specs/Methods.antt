@@ -1,9 +1,9 @@
 -- What the methods give that do not write. Another number of arguments is refused first, and then values of other kinds.
-use Rattle.std.specs.Prelude.{◌≡◌, ℕ, ◌+◌, Bool, true, false, not, ◌||◌, ◌==◌, nat_eq, nat_lt, nat_le, List, [], ◌∷◌, ◌++◌, length, map, fold, drop, slice_get, slice_range, is_some, Option, None, Some, Result, Ok, Err, ℤ, pos, negsuc, if◌then◌else◌}
+use Rattle.std.specs.Prelude.{◌≡◌, ℕ, ◌+◌, Bool, true, false, not, ◌||◌, ◌==◌, nat_eq, nat_lt, nat_le, List, [], ◌∷◌, ◌++◌, length, map, fold, drop, slice_get, slice_range, is_some, unwrap_or, Option, None, Some, Result, Ok, Err, ℤ, pos, negsuc, if◌then◌else◌}
 use Rattle.std.specs.List.{starts_with, ends_with}
 use Rattle.slot_arena.specs.declared.handle.Handle.{Handle}
 use Rattle.gd_model.specs.declared.fault.RunFault.{RunFault}
-use Rattle.gd_model.specs.declared.fault.RunFault.TheVariants.{NoSuchMethod, NullReceiver, OutOfRange, TooLong, WrongNumberOfArguments, ValueOfAnotherType}
+use Rattle.gd_model.specs.declared.fault.RunFault.TheVariants.{BadKey, NoSuchMethod, NullReceiver, OutOfRange, TooLong, WrongNumberOfArguments, ValueOfAnotherType}
 use Rattle.gd_model.specs.declared.ty.Ty.TheVariants as ty
 use Rattle.gd_model.specs.declared.value.Key.{Key}
 use Rattle.gd_model.specs.declared.value.Value.{Value}
@@ -14,7 +14,7 @@ use Rattle.gd_model.specs.Thing.{ArrayThing, DictThing, value_at, with_pair}
 use Rattle.gd_containers.specs.Answers.{item_at}
 use Rattle.gd_containers.specs.Keys.{key_value}
 use Rattle.gd_containers.specs.declared.fault.ThingFault.{ThingFault}
-use Rattle.gd_containers.specs.declared.fault.ThingFault.TheVariants.{NoMemory}
+use Rattle.gd_containers.specs.declared.fault.ThingFault.TheVariants.{Run, NoMemory}
 use Rattle.gd_text.specs.Number.{is_valid_int, to_int}
 use Rattle.gd_text.specs.Search.{find, replaced, split}
 use Rattle.gd_text.specs.Text.{left, right, repeated, substr, stripped}
@@ -143,3 +143,148 @@ JoinGives things names a args r = Answers (misfit 1 1 args) r
 abbrev pub TextCallGives : (Handle → Option Thing) → (ℕ → Option (List ℕ)) → Builtin → List ℕ → List Value → Result Fresh ThingFault → Type 0
 TextCallGives things names b.StringJoin a args r = JoinGives things names a args r
 TextCallGives things names method a args r = Answers (texts_call method a args) r
+
+-- the value at a place, or null
+abbrev pub item_or_null : Option Value → Fresh
+item_or_null None = Made v.Nil
+item_or_null (Some v) = Made v
+
+-- a writable array of the same type with the elements from one place on and before another
+abbrev pub sliced : ArrayThing → ℤ × ℤ → ArrayThing
+sliced a p = record { element = a.element; fixed = false; items = slice_range a.items (place.clamped p.0 (length a.items)) (place.clamped p.1 (length a.items)) }
+
+-- how many elements the test says yes for, and n more
+abbrev pub count_from : (Value → Option (Result Bool RunFault)) → ℕ → List Value → Option (Result ℕ RunFault)
+count_from test n [] = Some (Ok n)
+count_from test n (x ∷ xs) = and_then (test x) (λ yes. count_from test (n + (if yes then 1 else 0)) xs)
+
+abbrev pub one_value : List Value → Option (Result Value RunFault)
+one_value (a ∷ []) = Some (Ok a)
+one_value args = Some (Err WrongNumberOfArguments)
+
+abbrev pub value_and_maybe : List Value → Option (Result (Value × ℤ) RunFault)
+value_and_maybe (a ∷ []) = Some (Ok (a, pos 0))
+value_and_maybe (a ∷ v.Int from ∷ []) = Some (Ok (a, from))
+value_and_maybe args = misfit 1 2 args
+
+-- the first place from `from` on of an element that equals the value
+abbrev pub place_of : (Handle → Option Thing) → ArrayThing → Value × ℤ → Option (Result (Option ℕ) RunFault)
+place_of things a (v, pos from) = first_place (λ x. same things x v) from (drop from a.items)
+place_of things a (v, negsuc k) = Some (Ok None)
+
+abbrev pub has_gives : (Handle → Option Thing) → ArrayThing → Value → Option (Result Fresh RunFault)
+has_gives things a v = in_form (λ at. bool_made (is_some at)) (first_place (λ x. same things x v) 0 a.items)
+
+abbrev pub count_gives : (Handle → Option Thing) → ArrayThing → Value → Option (Result Fresh RunFault)
+count_gives things a v = in_form (λ n. int_made (pos n)) (count_from (λ x. same things x v) 0 a.items)
+
+abbrev pub place_gives : (Handle → Option Thing) → ArrayThing → Value × ℤ → Option (Result Fresh RunFault)
+place_gives things a p = in_form place_made (place_of things a p)
+
+-- the methods of an Array without arguments
+abbrev pub array_alone : Builtin → ArrayThing → Option (Result Fresh RunFault)
+array_alone b.ArraySize a = Some (Ok (int_made (pos (length a.items))))
+array_alone b.ArrayIsEmpty a = Some (Ok (bool_made (length a.items == 0)))
+array_alone b.ArrayIsReadOnly a = Some (Ok (bool_made a.fixed))
+array_alone b.ArrayFront a = Some (Ok (item_or_null (item_at a.items (pos 0))))
+array_alone b.ArrayBack a = Some (Ok (item_or_null (item_at a.items (negsuc 0))))
+array_alone b.ArrayDuplicate a = Some (Ok (MadeArray (record a { fixed = false })))
+array_alone method a = Some (Err NoSuchMethod)
+
+-- the methods of an Array
+abbrev pub arrays_call : (Handle → Option Thing) → Builtin → ArrayThing → List Value → Option (Result Fresh RunFault)
+arrays_call things b.ArraySize a args = alone (array_alone b.ArraySize a) args
+arrays_call things b.ArrayIsEmpty a args = alone (array_alone b.ArrayIsEmpty a) args
+arrays_call things b.ArrayIsReadOnly a args = alone (array_alone b.ArrayIsReadOnly a) args
+arrays_call things b.ArrayFront a args = alone (array_alone b.ArrayFront a) args
+arrays_call things b.ArrayBack a args = alone (array_alone b.ArrayBack a) args
+arrays_call things b.ArrayDuplicate a args = alone (array_alone b.ArrayDuplicate a) args
+arrays_call things b.ArraySlice a args = in_form (λ p. MadeArray (sliced a p)) (int_and_maybe (pos 2147483647) args)
+arrays_call things b.ArrayHas a args = and_then (one_value args) (has_gives things a)
+arrays_call things b.ArrayCount a args = and_then (one_value args) (count_gives things a)
+arrays_call things b.ArrayFind a args = and_then (value_and_maybe args) (place_gives things a)
+arrays_call things method a args = Some (Err NoSuchMethod)
+
+-- the keys and the values of a dictionary as arrays
+abbrev pub keys_array : List (Key × Value) → ArrayThing
+keys_array ps = record { element = ty.Variant; fixed = false; items = map (λ p. key_value p.0) ps }
+
+abbrev pub values_array : List (Key × Value) → ArrayThing
+values_array ps = record { element = ty.Variant; fixed = false; items = map (λ p. p.1) ps }
+
+-- the pairs once these are put one by one
+abbrev pub put_all : List (Key × Value) → List (Key × Value) → List (Key × Value)
+put_all old ps = fold (λ qs p. with_pair qs p.0 p.1) old ps
+
+-- a writable dictionary of the same types, into which the pairs are put one by one
+abbrev pub dict_copy : DictThing → DictThing
+dict_copy d = record d { fixed = false; pairs = put_all [] d.pairs }
+
+-- the methods of a Dictionary without arguments
+abbrev pub dict_alone : Builtin → DictThing → Option (Result Fresh RunFault)
+dict_alone b.DictionarySize d = Some (Ok (int_made (pos (length d.pairs))))
+dict_alone b.DictionaryIsEmpty d = Some (Ok (bool_made (length d.pairs == 0)))
+dict_alone b.DictionaryIsReadOnly d = Some (Ok (bool_made d.fixed))
+dict_alone b.DictionaryKeys d = Some (Ok (MadeArray (keys_array d.pairs)))
+dict_alone b.DictionaryValues d = Some (Ok (MadeArray (values_array d.pairs)))
+dict_alone b.DictionaryDuplicate d = Some (Ok (MadeDict (dict_copy d)))
+dict_alone method d = Some (Err NoSuchMethod)
+
+-- a key among arguments; what is no key is refused
+abbrev pub with_key : {A : Type 0} → Option Key → (Key → Option (Result A RunFault)) → Option (Result A RunFault)
+with_key None more = Some (Err BadKey)
+with_key (Some k) more = more k
+
+-- the value at a key, or the other one
+abbrev pub value_or : DictThing → Value × Value → Option (Result Fresh RunFault)
+value_or d p = with_key (as_key p.0) (λ k. Some (Ok (Made (unwrap_or (value_at d.pairs k) p.1))))
+
+abbrev pub key_and_maybe : List Value → Option (Result (Value × Value) RunFault)
+key_and_maybe (k ∷ []) = Some (Ok (k, v.Nil))
+key_and_maybe (k ∷ other ∷ []) = Some (Ok (k, other))
+key_and_maybe args = Some (Err WrongNumberOfArguments)
+
+-- the key of the first pair whose value the test says yes for, or null
+abbrev pub first_key : (Value → Option (Result Bool RunFault)) → List (Key × Value) → Option (Result Value RunFault)
+first_key test [] = Some (Ok v.Nil)
+first_key test (p ∷ ps) = and_then (test p.1) (λ yes. if yes then Some (Ok (key_value p.0)) else first_key test ps)
+
+abbrev pub has_key_gives : DictThing → Value → Option (Result Fresh RunFault)
+has_key_gives d v = with_key (as_key v) (λ k. Some (Ok (bool_made (is_some (value_at d.pairs k)))))
+
+abbrev pub find_key_gives : (Handle → Option Thing) → DictThing → Value → Option (Result Fresh RunFault)
+find_key_gives things d v = in_form Made (first_key (λ x. same things x v) d.pairs)
+
+-- the methods of a Dictionary
+abbrev pub dicts_call : (Handle → Option Thing) → Builtin → DictThing → List Value → Option (Result Fresh RunFault)
+dicts_call things b.DictionarySize d args = alone (dict_alone b.DictionarySize d) args
+dicts_call things b.DictionaryIsEmpty d args = alone (dict_alone b.DictionaryIsEmpty d) args
+dicts_call things b.DictionaryIsReadOnly d args = alone (dict_alone b.DictionaryIsReadOnly d) args
+dicts_call things b.DictionaryKeys d args = alone (dict_alone b.DictionaryKeys d) args
+dicts_call things b.DictionaryValues d args = alone (dict_alone b.DictionaryValues d) args
+dicts_call things b.DictionaryDuplicate d args = alone (dict_alone b.DictionaryDuplicate d) args
+dicts_call things b.DictionaryHas d args = and_then (one_value args) (has_key_gives d)
+dicts_call things b.DictionaryGet d args = and_then (key_and_maybe args) (value_or d)
+dicts_call things b.DictionaryFindKey d args = and_then (one_value args) (find_key_gives things d)
+dicts_call things method d args = Some (Err NoSuchMethod)
+
+abbrev pub ArrayCallGives : (Handle → Option Thing) → Builtin → Option ArrayThing → List Value → Result Fresh ThingFault → Type 0
+ArrayCallGives things method None args r = r ≡ Err NoMemory
+ArrayCallGives things method (Some a) args r = Answers (arrays_call things method a args) r
+
+abbrev pub DictCallGives : (Handle → Option Thing) → Builtin → Option DictThing → List Value → Result Fresh ThingFault → Type 0
+DictCallGives things method None args r = r ≡ Err NoMemory
+DictCallGives things method (Some d) args r = Answers (dicts_call things method d args) r
+
+-- a method by its receiver
+abbrev pub ReceiverGives : (Handle → Option Thing) → (ℕ → Option (List ℕ)) → Builtin → Value → List Value → Result Fresh ThingFault → Type 0
+ReceiverGives things names method (v.Str a) args r = TextCallGives things names method a args r
+ReceiverGives things names method (v.Array h) args r = ArrayCallGives things method (array_behind (things h)) args r
+ReceiverGives things names method (v.Dict h) args r = DictCallGives things method (dict_behind (things h)) args r
+ReceiverGives things names method v.Nil args r = r ≡ Err (Run NullReceiver)
+ReceiverGives things names method other args r = r ≡ Err (Run NoSuchMethod)
+
+-- a method, its receiver being the first argument
+abbrev pub MethodGives : (Handle → Option Thing) → (ℕ → Option (List ℕ)) → Builtin → List Value → Result Fresh ThingFault → Type 0
+MethodGives things names method [] r = r ≡ Err (Run WrongNumberOfArguments)
+MethodGives things names method (receiver ∷ args) r = ReceiverGives things names method receiver args r

@@ -1,7 +1,9 @@
 //! Operators, builtins and printed forms (docs/runtime.md).
 #![tactic(auto)]
 
+mod array_methods;
 mod builtin;
+mod dict_methods;
 mod equality;
 mod fresh;
 mod functions;

@@ -1,12 +1,14 @@
-//! The methods of Strings, Arrays and Dictionaries that do not write.
+//! The methods that do not write, by their receivers.
+ghost use Rattle.gd_ops.specs.Methods.{MethodGives, ReceiverGives};
+
+use crate::array_methods::call_on_array;
 use crate::builtin::Builtin;
-use crate::equality::{never_comes, same};
-use crate::fresh::{Fresh, boolean, int, refused};
-use crate::misfit::misfit;
-use crate::operators::first_place;
-use crate::text_methods::{call_on_text, found};
-use gd_containers::{Look, OrderedDict, ThingFault, TypedArray, key_of};
-use gd_model::{Key, RunFault, Ty, Value};
+use crate::dict_methods::call_on_dict;
+use crate::equality::never_comes;
+use crate::fresh::{Fresh, refused};
+use crate::text_methods::call_on_text;
+use gd_containers::{Look, ThingFault};
+use gd_model::{RunFault, Value};
 use std::alloc::Global;
 
 /// A method, its receiver being the first argument.
@@ -15,172 +17,36 @@ pub fn call_method<K: Look>(
     method: Builtin,
     args: &[Value],
     look: &K,
-) -> Result<Fresh, ThingFault> {
+) -> Result<Fresh, ThingFault>
+    ensures { MethodGives (K.things look.now) (K.names look.now) method args.now result }
+{
     match args {
-        [Value::Str(receiver), rest @ ..] => call_on_text(alloc, method, receiver, rest, look),
-        [Value::Array(h), rest @ ..] => match look.array(*h) {
-            Some(receiver) => on_array(alloc, method, receiver, rest, look),
-            None => Err(never_comes()),
-        },
-        [Value::Dict(h), rest @ ..] => match look.dict(*h) {
-            Some(receiver) => on_dict(alloc, method, receiver, rest, look),
-            None => Err(never_comes()),
-        },
-        _ => refused(RunFault::WrongNumberOfArguments),
+        [] => refused(RunFault::WrongNumberOfArguments),
+        [receiver, rest @ ..] => call_on(alloc, method, receiver, rest, look),
     }
 }
 
-fn on_array<K: Look>(
+/// `NullReceiver` for null, and `NoSuchMethod` for another value that has no methods here.
+fn call_on<K: Look>(
     alloc: Global,
     method: Builtin,
-    a: &TypedArray,
+    receiver: &Value,
     args: &[Value],
     look: &K,
-) -> Result<Fresh, ThingFault> {
-    match (method, args) {
-        (Builtin::ArraySize, []) => int(i64::from(a.size())),
-        (Builtin::ArrayIsEmpty, []) => boolean(a.size() == 0),
-        (Builtin::ArrayIsReadOnly, []) => boolean(a.fixed()),
-        (Builtin::ArrayFront, []) => item_or_null(a, 0),
-        (Builtin::ArrayBack, []) => item_or_null(a, -1),
-        (Builtin::ArrayDuplicate, []) => slice(alloc, a, 0, i64::MAX),
-        (Builtin::ArraySlice, [Value::Int(from)]) => slice(alloc, a, *from, 2_147_483_647),
-        (Builtin::ArraySlice, [Value::Int(from), Value::Int(to)]) => slice(alloc, a, *from, *to),
-        (Builtin::ArrayHas, [v]) => boolean(first_place(a, v, 0, look)?.is_some()),
-        (Builtin::ArrayCount, [v]) => count(a, v, look),
-        (Builtin::ArrayFind, [v]) => place(a, v, 0, look),
-        (Builtin::ArrayFind, [v, Value::Int(from)]) => place(a, v, *from, look),
-        (Builtin::ArraySize, _)
-        | (Builtin::ArrayIsEmpty, _)
-        | (Builtin::ArrayIsReadOnly, _)
-        | (Builtin::ArrayFront, _)
-        | (Builtin::ArrayBack, _)
-        | (Builtin::ArrayDuplicate, _) => misfit(args, 0, 0),
-        (Builtin::ArraySlice, _) | (Builtin::ArrayFind, _) => misfit(args, 1, 2),
-        (Builtin::ArrayHas, _) | (Builtin::ArrayCount, _) => misfit(args, 1, 1),
+) -> Result<Fresh, ThingFault>
+    ensures { ReceiverGives (K.things look.now) (K.names look.now) method receiver.now args.now result }
+{
+    match receiver {
+        Value::Str(a) => call_on_text(alloc, method, a, args, look),
+        Value::Array(h) => match look.array(*h) {
+            Some(a) => call_on_array(alloc, method, a, args, look),
+            None => Err(never_comes()),
+        },
+        Value::Dict(h) => match look.dict(*h) {
+            Some(d) => call_on_dict(alloc, method, d, args, look),
+            None => Err(never_comes()),
+        },
+        Value::Nil => refused(RunFault::NullReceiver),
         _ => refused(RunFault::NoSuchMethod),
     }
-}
-
-fn item_or_null(a: &TypedArray, at: i64) -> Result<Fresh, ThingFault> {
-    match a.get(at) {
-        Ok(v) => Ok(Fresh::Value(v.share()?)),
-        Err(_) => Ok(Fresh::Value(Value::Nil)),
-    }
-}
-
-fn slice(alloc: Global, a: &TypedArray, from: i64, to: i64) -> Result<Fresh, ThingFault> {
-    Ok(Fresh::Array(a.slice(alloc, from, to)?))
-}
-
-fn place<K: Look>(a: &TypedArray, v: &Value, from: i64, look: &K) -> Result<Fresh, ThingFault> {
-    match u32::try_from(from) {
-        Ok(from) => found(first_place(a, v, from, look)?),
-        Err(_) => int(-1),
-    }
-}
-
-fn count<K: Look>(a: &TypedArray, v: &Value, look: &K) -> Result<Fresh, ThingFault> {
-    let mut all = 0i64;
-    for item in a.items() {
-        if same(item, v, look)? {
-            all = all.saturating_add(1);
-        }
-    }
-    int(all)
-}
-
-fn on_dict<K: Look>(
-    alloc: Global,
-    method: Builtin,
-    d: &OrderedDict,
-    args: &[Value],
-    look: &K,
-) -> Result<Fresh, ThingFault> {
-    match (method, args) {
-        (Builtin::DictionarySize, []) => int(i64::from(d.size())),
-        (Builtin::DictionaryIsEmpty, []) => boolean(d.size() == 0),
-        (Builtin::DictionaryIsReadOnly, []) => boolean(d.fixed()),
-        (Builtin::DictionaryKeys, []) => keys(alloc, d),
-        (Builtin::DictionaryValues, []) => values(alloc, d),
-        (Builtin::DictionaryDuplicate, []) => duplicate(alloc, d),
-        (Builtin::DictionaryHas, [k]) => boolean(d.get(&key_of(k)?).is_some()),
-        (Builtin::DictionaryGet, [k]) => value_or(d, k, &Value::Nil),
-        (Builtin::DictionaryGet, [k, default]) => value_or(d, k, default),
-        (Builtin::DictionaryFindKey, [v]) => find_key(d, v, look),
-        (Builtin::DictionarySize, _)
-        | (Builtin::DictionaryIsEmpty, _)
-        | (Builtin::DictionaryIsReadOnly, _)
-        | (Builtin::DictionaryKeys, _)
-        | (Builtin::DictionaryValues, _)
-        | (Builtin::DictionaryDuplicate, _) => misfit(args, 0, 0),
-        (Builtin::DictionaryHas, _) | (Builtin::DictionaryFindKey, _) => misfit(args, 1, 1),
-        (Builtin::DictionaryGet, _) => misfit(args, 1, 2),
-        _ => refused(RunFault::NoSuchMethod),
-    }
-}
-
-fn value_or(d: &OrderedDict, k: &Value, default: &Value) -> Result<Fresh, ThingFault> {
-    match d.get(&key_of(k)?) {
-        Some(v) => Ok(Fresh::Value(v.share()?)),
-        None => Ok(Fresh::Value(default.share()?)),
-    }
-}
-
-/// The value that a key is.
-fn value_of(key: &Key) -> Result<Value, ThingFault> {
-    match key {
-        Key::Nil => Ok(Value::Nil),
-        Key::Bool(b) => Ok(Value::Bool(*b)),
-        Key::Int(n) => Ok(Value::Int(*n)),
-        Key::Str(text) => Ok(Value::Str(text.share()?)),
-        Key::Object(h) => Ok(Value::Object(*h)),
-    }
-}
-
-fn keys(alloc: Global, d: &OrderedDict) -> Result<Fresh, ThingFault> {
-    let mut all = TypedArray::new(alloc, Ty::Variant, false);
-    for i in 0..d.size() {
-        let Some((key, _)) = d.at(i) else {
-            return Err(never_comes());
-        };
-        all.push(value_of(key)?, true)?;
-    }
-    Ok(Fresh::Array(all))
-}
-
-fn values(alloc: Global, d: &OrderedDict) -> Result<Fresh, ThingFault> {
-    let mut all = TypedArray::new(alloc, Ty::Variant, false);
-    for i in 0..d.size() {
-        let Some((_, value)) = d.at(i) else {
-            return Err(never_comes());
-        };
-        all.push(value.share()?, true)?;
-    }
-    Ok(Fresh::Array(all))
-}
-
-fn duplicate(alloc: Global, d: &OrderedDict) -> Result<Fresh, ThingFault> {
-    let key = d.key_type().copy(alloc)?;
-    let value = d.value_type().copy(alloc)?;
-    let mut all = OrderedDict::of(alloc, false, key, value);
-    for i in 0..d.size() {
-        let Some((key, value)) = d.at(i) else {
-            return Err(never_comes());
-        };
-        all.put(key.share()?, value.share()?, true)?;
-    }
-    Ok(Fresh::Dict(all))
-}
-
-fn find_key<K: Look>(d: &OrderedDict, v: &Value, look: &K) -> Result<Fresh, ThingFault> {
-    for i in 0..d.size() {
-        let Some((key, value)) = d.at(i) else {
-            return Err(never_comes());
-        };
-        if same(value, v, look)? {
-            return Ok(Fresh::Value(value_of(key)?));
-        }
-    }
-    Ok(Fresh::Value(Value::Nil))
 }
