@@ -2,7 +2,7 @@
 use Rattle.std.proofs.Common.{◌≡◌, ℕ, zero, suc, ◌+◌, ◌-◌, ◌≤◌, Bool, true, false, cond, List, [], ◌∷◌, length, drop, slice_get, length-drop, refl, ap, sym, ◌∙◌, arith, subst}
 use Rattle.std.specs.Prelude.{Option, Some, None, OnSome, IfNone, ◌<◌}
 use Rattle.gd_syntax.specs.declared.pos.Pos.{Pos}
-use Rattle.gd_lexer.specs.declared.glyph.Glyph.{Glyph}
+use Rattle.gd_lexis.specs.declared.glyph.Glyph.{Glyph}
 use Rattle.gd_lexer.specs.Glyphs.{decoded, glyph_or, first_glyph, width, glyphs, after_first}
 use Rattle.gd_lexer.specs.Cursor.{Spot, advanced, advanced_over, after_glyph}
 use Rattle.gd_lexer.proofs.GlyphLemmas.{glyphs_cons}

@@ -1,10 +1,14 @@
 -- Laws of spots that follow one another.
-use Rattle.std.proofs.Common.{◌≡◌, ℕ, zero, suc, ◌+◌, ◌-◌, ◌≤◌, ◌<◌, Bool, true, false, cond, List, [], ◌∷◌, length, drop, length-drop, refl, ap, sym, ◌∙◌, arith, subst, inl, inr}
+use Rattle.std.proofs.Common.{◌≡◌, ℕ, zero, suc, ◌+◌, ◌-◌, ◌≤◌, ◌<◌, Bool, true, false, cond, List, [], ◌∷◌, length, drop, length-drop, ◌++◌, append_assoc, reverse, refl, ap, sym, ◌∙◌, arith, subst, inl, inr}
 use Rattle.std.proofs.lemmas.Bool.Decides.{nat_tests}
-use Rattle.std.specs.Prelude.{Option, Some, None, ◌⊎◌, ◌==◌}
+use Rattle.std.proofs.lemmas.List.{reverse-append}
+use Rattle.std.proofs.lemmas.List.Sums.{sum_by-append}
+use Rattle.std.specs.Prelude.{Option, Some, None, ◌⊎◌, ◌==◌, not, count_by}
+use Rattle.std.specs.List.{prefix_len}
 use Rattle.gd_syntax.specs.declared.pos.Pos.{Pos}
-use Rattle.gd_lexer.specs.declared.glyph.Glyph.{Glyph}
-use Rattle.gd_lexer.specs.declared.glyph.Glyph.TheVariants.{Char, Bad}
+use Rattle.gd_lexis.specs.declared.glyph.Glyph.{Glyph}
+use Rattle.gd_lexis.specs.declared.glyph.Glyph.TheVariants.{Char, Bad}
+use Rattle.gd_lexis.specs.Chars.{is_line_feed, place_behind}
 use Rattle.gd_lexer.specs.Glyphs.{decoded, glyph_or, first_glyph, width, glyphs}
 use Rattle.gd_lexer.specs.Cursor.{Spot, advanced, advanced_over, after_glyph, after_char}
 use Rattle.gd_lexer.specs.Follows.{Follows, IsAtMost}
@@ -36,10 +40,18 @@ file_glyph (Char c) p = same_file (c == 10) p
 file_glyph (Bad b) p = refl
 
 pub Follows-refl : (s : Spot) → Follows s s
-Follows-refl s = record { fewer = omega arith; wide = omega arith; whole = refl; later = IsAtMost-refl s.pos; file = refl }
+Follows-refl s = record { fewer = omega arith; wide = omega arith; whole = refl; later = IsAtMost-refl s.pos; file = refl; place = λ file all h. h }
 
 pub Follows-trans : (a b c : Spot) → Follows a b → Follows b c → Follows a c
-Follows-trans a b c h k = record { fewer = omega arith; wide = omega arith; whole = k.whole ∙ h.whole; later = IsAtMost-trans a.pos b.pos c.pos h.later k.later; file = k.file ∙ h.file }
+Follows-trans a b c h k = record { fewer = omega arith; wide = omega arith; whole = k.whole ∙ h.whole; later = IsAtMost-trans a.pos b.pos c.pos h.later k.later; file = k.file ∙ h.file; place = λ file all p. k.place file all (h.place file all p) }
+
+pub advanced_rest : (s : Spot) → (advanced s).glyphs ≡ drop 1 s.glyphs
+unfolding advanced
+advanced_rest s = over s.glyphs s refl
+  where
+    over : (gs : List Glyph) (t : Spot) → t.glyphs ≡ gs → (advanced_over gs t).glyphs ≡ drop 1 gs
+    over [] t e = e
+    over (g ∷ gs) t e = refl
 
 pub advanced_fewer : (s : Spot) → length (advanced s).glyphs ≡ length s.glyphs - 1
 unfolding advanced
@@ -48,6 +60,34 @@ advanced_fewer s = over s.glyphs s refl
     over : (gs : List Glyph) (t : Spot) → t.glyphs ≡ gs → length (advanced_over gs t).glyphs ≡ length gs - 1
     over [] t e = ap length e
     over (g ∷ gs) t e = omega arith
+
+count_push : (before : List Glyph) (g : Glyph) → count_by is_line_feed (before ++ g ∷ []) ≡ count_by is_line_feed before + cond (is_line_feed g) 1 0
+count_push before g = omega (arith, sum_by-append (λ h. cond (is_line_feed h) 1 0) before (g ∷ []))
+
+column_push : (before : List Glyph) (g : Glyph)
+    → prefix_len (λ h. not (is_line_feed h)) (reverse (before ++ g ∷ [])) ≡ cond (not (is_line_feed g)) (1 + prefix_len (λ h. not (is_line_feed h)) (reverse before)) 0
+column_push before g = rw (reverse-append before (g ∷ [])) refl
+
+abbrev spot_at : ℕ → ℕ → ℕ → Pos
+spot_at file line column = record { file = file; line = line; column = column }
+
+same_spot : (file l m c d : ℕ) → l ≡ m → c ≡ d → spot_at file l c ≡ spot_at file m d
+same_spot file l m c d e f = rw (e, f) refl
+
+place_char : (b : Bool) (file : ℕ) (before : List Glyph) (g : Glyph) → is_line_feed g ≡ b
+    → cond b (spot_at file (count_by is_line_feed before + 1 + 1) 1) (spot_at file (count_by is_line_feed before + 1) (prefix_len (λ h. not (is_line_feed h)) (reverse before) + 1 + 1))
+    ≡ place_behind file (before ++ g ∷ [])
+place_char true file before g e =
+    let lines = count_push before g in let column = column_push before g in
+    same_spot file _ _ _ _ (rw (lines, e) (omega arith)) (rw (column, e) refl)
+place_char false file before g e =
+    let lines = count_push before g in let column = column_push before g in
+    same_spot file _ _ _ _ (rw (lines, e) (omega arith)) (rw (column, e) (omega arith))
+
+-- the place behind one glyph more
+pub place_more : (file : ℕ) (before : List Glyph) (g : Glyph) → after_glyph g (place_behind file before) ≡ place_behind file (before ++ g ∷ [])
+place_more file before (Char c) = place_char (c == 10) file before (Char c) refl
+place_more file before (Bad b) = place_char false file before (Bad b) refl
 
 head_of : (bs : List ℕ) (g : Glyph) → Some g ≡ first_glyph bs → glyphs bs ≡ g ∷ glyphs (drop (width g) bs)
 unfolding first_glyph
@@ -68,6 +108,11 @@ Follows-advance s bs rest g w o p q shown first wide fits cut place =
       whole = omega (arith, ap length cut, length-drop w bs);
       later = rw place (later_glyph g p);
       file = rw place (file_glyph g p);
+      place = λ file all h. (
+        h.0 ++ g ∷ [],
+        h.1 ∙ ap (λ t. h.0 ++ t) (head_of bs g first) ∙ sym (append_assoc h.0 (g ∷ []) (glyphs (drop (width g) bs))) ∙ ap (λ t. (h.0 ++ g ∷ []) ++ glyphs t) (sym tail),
+        place ∙ ap (after_glyph g) h.2 ∙ place_more file h.0 g,
+      );
     })
 
 pub IsAtMost-same : (p q : Pos) → p ≡ q → IsAtMost p q

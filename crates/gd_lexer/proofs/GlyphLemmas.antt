@@ -4,8 +4,8 @@ use Rattle.std.proofs.lemmas.Grind.{common_steps}
 use Rattle.std.proofs.lemmas.Bool.Decides.{nat_tests}
 use Rattle.std.specs.Prelude.{Option, Some, None, IfSome, MatchOption, ◌&&◌, nat_lt, nat_le}
 use Rattle.std.specs.Char.{len_utf8}
-use Rattle.gd_lexer.specs.declared.glyph.Glyph.{Glyph}
-use Rattle.gd_lexer.specs.declared.glyph.Glyph.TheVariants.{Char, Bad}
+use Rattle.gd_lexis.specs.declared.glyph.Glyph.{Glyph}
+use Rattle.gd_lexis.specs.declared.glyph.Glyph.TheVariants.{Char, Bad}
 use Rattle.gd_lexer.specs.Glyphs.{is_scalar, scalar_of, continues, two, three, three_code, four, four_code, decoded, glyph_or, first_glyph, width, glyphs_past, glyphs, after_first, width_of_first}
 
 len_two : (c : ℕ) → c < 0x800 → len_utf8 c ≤ 2

@@ -1,8 +1,9 @@
 -- What a cursor shows: the glyphs that are left, and where they begin.
-use Rattle.std.specs.Prelude.{ℕ, ◌+◌, ◌-◌, ◌≤◌, ◌==◌, ◌&&◌, Bool, false, if◌then◌else◌, List, [], ◌∷◌, length, drop, slice_index, slice_get, Option, Some, None}
+use Rattle.std.specs.Prelude.{◌≡◌, ◌++◌, ℕ, ◌+◌, ◌-◌, ◌≤◌, ◌==◌, ◌&&◌, Bool, false, if◌then◌else◌, List, [], ◌∷◌, length, drop, slice_index, slice_get, Option, Some, None}
 use Rattle.gd_syntax.specs.declared.pos.Pos.{Pos}
-use Rattle.gd_lexer.specs.declared.glyph.Glyph.{Glyph}
-use Rattle.gd_lexer.specs.declared.glyph.Glyph.TheVariants.{Char, Bad}
+use Rattle.gd_lexis.specs.declared.glyph.Glyph.{Glyph}
+use Rattle.gd_lexis.specs.declared.glyph.Glyph.TheVariants.{Char, Bad}
+use Rattle.gd_lexis.specs.Chars.{place_behind}
 use Rattle.gd_lexer.specs.Glyphs.{glyphs, width}
 
 pub record Spot : Type 0 where
@@ -42,6 +43,10 @@ mark_len bs = if has_mark bs then 3 else 0
 -- the start of a file
 abbrev pub start_of : ℕ → List ℕ → Spot
 start_of file bs = record { glyphs = glyphs (drop (mark_len bs) bs); left = length (drop (mark_len bs) bs); offset = mark_len bs; pos = start_pos file }
+
+-- Behind some of the file's glyphs stand those that the spot shows, and its place is the one behind them.
+abbrev pub IsAt : ℕ → List Glyph → Spot → Type 0
+IsAt file all s = (before : List Glyph) × (all ≡ before ++ s.glyphs) × (s.pos ≡ place_behind file before)
 
 -- the glyph is this character
 abbrev pub is_char : Option Glyph → ℕ → Bool

@@ -1,7 +1,8 @@
 -- One spot of a file is at or behind another.
-use Rattle.std.specs.Prelude.{◌≡◌, ℕ, ◌+◌, ◌<◌, ◌≤◌, ◌⊎◌, length}
+use Rattle.std.specs.Prelude.{◌≡◌, ℕ, ◌+◌, ◌<◌, ◌≤◌, ◌⊎◌, length, List}
 use Rattle.gd_syntax.specs.declared.pos.Pos.{Pos}
-use Rattle.gd_lexer.specs.Cursor.{Spot}
+use Rattle.gd_lexis.specs.declared.glyph.Glyph.{Glyph}
+use Rattle.gd_lexer.specs.Cursor.{Spot, IsAt}
 
 -- a place is the other, or stands before it
 abbrev pub IsAtMost : Pos → Pos → Type 0
@@ -14,3 +15,5 @@ pub record Follows (old new : Spot) : Type 0 where
   pub whole : new.offset + new.left ≡ old.offset + old.left
   pub later : IsAtMost old.pos new.pos
   pub file : new.pos.file ≡ old.pos.file
+  -- both are of one file, and the new place is that behind all that was gone over
+  pub place : (file : ℕ) (all : List Glyph) → IsAt file all old → IsAt file all new

@@ -1,12 +1,12 @@
 -- How bytes are read as glyphs: well-formed characters of UTF-8, and bytes that are part of none.
-use Rattle.std.specs.Prelude.{ℕ, zero, suc, ◌+◌, ◌-◌, ◌*◌, ◌%◌, Bool, ◌&&◌, ◌||◌, nat_lt, nat_le, if◌then◌else◌, List, [], ◌∷◌, drop, Option, Some, None}
+use Rattle.std.specs.Prelude.{ℕ, zero, suc, ◌+◌, ◌-◌, ◌*◌, ◌%◌, Bool, true, ◌&&◌, nat_lt, nat_le, if◌then◌else◌, List, [], ◌∷◌, drop, Option, Some, None}
 use Rattle.std.specs.Char.{len_utf8}
-use Rattle.gd_lexer.specs.declared.glyph.Glyph.{Glyph}
-use Rattle.gd_lexer.specs.declared.glyph.Glyph.TheVariants.{Char, Bad}
+use Rattle.gd_lexis.specs.declared.glyph.Glyph.{Glyph}
+use Rattle.gd_lexis.specs.declared.glyph.Glyph.TheVariants.{Char, Bad}
 
 -- the number is the code of a character
 abbrev pub is_scalar : ℕ → Bool
-is_scalar c = nat_lt c 0xD800 || (nat_le 0xE000 c && nat_lt c 0x110000)
+is_scalar c = if nat_lt c 0xD800 then true else (nat_le 0xE000 c && nat_lt c 0x110000)
 
 abbrev pub scalar_of : ℕ → Option ℕ
 scalar_of c = if is_scalar c then Some c else None

@@ -2,6 +2,7 @@ pub mod Glyphs
 pub mod Cursor
 pub mod CursorView
 pub mod Follows
+pub mod Name
 pub mod Number
 pub mod Lexical
 pub mod LexFaults
@@ -11,4 +12,9 @@ pub mod Lines
 pub mod Sound
 pub mod Stops
 pub mod Escape
+pub mod Quoted
 pub mod Mark
+pub mod Word
+pub mod Start
+pub mod Token
+pub mod Brackets

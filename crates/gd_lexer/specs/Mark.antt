@@ -1,8 +1,8 @@
 -- The longest mark at the front of some glyphs.
-use Rattle.std.specs.Prelude.{ℕ, ◌==◌, ◌||◌, Bool, true, false, if◌then◌else◌, List, Option, Some, None}
+use Rattle.std.specs.Prelude.{ℕ, ◌==◌, ◌||◌, ◌&&◌, Bool, true, false, if◌then◌else◌, List, Option, Some, None}
 use Rattle.gd_syntax.specs.declared.token.Mark.{Mark}
 use Rattle.gd_syntax.specs.declared.token.Mark.TheVariants as marks
-use Rattle.gd_lexer.specs.declared.glyph.Glyph.{Glyph}
+use Rattle.gd_lexis.specs.declared.glyph.Glyph.{Glyph}
 use Rattle.gd_lexer.specs.Cursor.{sees}
 
 abbrev pub with_equal : List Glyph → Mark → Mark → Mark × ℕ
@@ -28,3 +28,31 @@ angle c gs =
     if sees c gs 1
     then (if c == 60 then (if sees 61 gs 2 then (marks.ShiftLeftEqual, 3) else (marks.ShiftLeft, 2)) else (if sees 61 gs 2 then (marks.ShiftRightEqual, 3) else (marks.ShiftRight, 2)))
     else (if c == 60 then with_equal gs marks.Less marks.LessEqual else with_equal gs marks.Greater marks.GreaterEqual)
+
+-- a mark of one character that begins no longer one, and the dot
+abbrev pub single : ℕ → Option (Mark × ℕ)
+single c =
+    if c == 126 then Some (marks.Tilde, 1)
+    else (if c == 46 then Some (marks.Dot, 1)
+    else (if c == 58 then Some (marks.Colon, 1)
+    else (if c == 44 then Some (marks.Comma, 1)
+    else (if c == 59 then Some (marks.Semicolon, 1)
+    else (if c == 40 then Some (marks.LeftParen, 1)
+    else (if c == 41 then Some (marks.RightParen, 1)
+    else (if c == 91 then Some (marks.LeftBracket, 1)
+    else (if c == 93 then Some (marks.RightBracket, 1)
+    else (if c == 123 then Some (marks.LeftBrace, 1)
+    else (if c == 125 then Some (marks.RightBrace, 1)
+    else (if c == 64 then Some (marks.At, 1)
+    else (if c == 36 then Some (marks.Dollar, 1) else None))))))))))))
+
+-- The longest mark that begins with this character, the first of the glyphs, and the number of its characters.
+unfoldable pub mark_at : ℕ → List Glyph → Option (Mark × ℕ)
+mark_at c gs =
+    if c == 43 || c == 45 || c == 47 || c == 37 then Some (arithmetic c gs)
+    else (if c == 42 then Some (star gs)
+    else (if c == 38 || c == 124 || c == 94 then Some (bits c gs)
+    else (if c == 60 || c == 62 then Some (angle c gs)
+    else (if c == 61 then Some (with_equal gs marks.Equal marks.EqualEqual)
+    else (if c == 33 then Some (with_equal gs marks.Bang marks.BangEqual)
+    else (if c == 46 && sees 46 gs 1 then Some (marks.DotDot, 2) else single c))))))

@@ -1,5 +1,8 @@
 //! Open brackets, and the tokens of the items between separators.
-ghost use Rattle.std.specs.Prelude.{◌≡◌, ◌<◌, ◌≤◌, ◌+◌, ◌++◌, [], ◌∷◌, OnOk, IfErr, length};
+ghost use Rattle.std.specs.Prelude.{◌≡◌, ◌<◌, ◌≤◌, ◌+◌, ◌++◌, [], ◌∷◌, OnOk, IfErr, length, nat_lt};
+ghost use Rattle.gd_lexis.specs.Lines as lines;
+ghost use Rattle.gd_lexis.specs.Items as items;
+ghost use Rattle.gd_lexer.specs.Brackets as spec;
 
 use crate::stop::Stop;
 use crate::stopped::stop_at;
@@ -30,19 +33,47 @@ pub struct Brackets {
     around: Items<u32>,
 }
 
-fn role_of_mark(mark: Mark) -> Role {
-    match mark {
-        Mark::LeftParen | Mark::LeftBracket | Mark::LeftBrace => Role::Opening,
-        Mark::RightParen | Mark::RightBracket | Mark::RightBrace => Role::Closing,
-        Mark::Comma | Mark::Semicolon | Mark::Colon => Role::Separator,
-        _ if is_assignment(mark) => Role::Separator,
-        _ => Role::Part,
+fn role_of_mark(mark: Mark) -> Role
+    ensures { result ≡ spec.role_of_mark mark }
+{
+    if is_separator(mark) {
+        Role::Separator
+    } else if is_opening(mark) {
+        Role::Opening
+    } else if is_closing(mark) {
+        Role::Closing
+    } else {
+        Role::Part
     }
 }
 
-fn is_assignment(mark: Mark) -> bool {
+fn is_opening(mark: Mark) -> bool
+    ensures { result ≡ lines.is_opening mark }
+{
     match mark {
-        Mark::Equal
+        Mark::LeftParen | Mark::LeftBracket | Mark::LeftBrace => true,
+        _ => false,
+    }
+}
+
+fn is_closing(mark: Mark) -> bool
+    ensures { result ≡ lines.is_closing mark }
+{
+    match mark {
+        Mark::RightParen | Mark::RightBracket | Mark::RightBrace => true,
+        _ => false,
+    }
+}
+
+/// Whether the mark ends an item: a comma, a semicolon, a colon or an assignment.
+fn is_separator(mark: Mark) -> bool
+    ensures { result ≡ items.is_separator mark }
+{
+    match mark {
+        Mark::Comma
+        | Mark::Semicolon
+        | Mark::Colon
+        | Mark::Equal
         | Mark::PlusEqual
         | Mark::MinusEqual
         | Mark::StarEqual
@@ -58,7 +89,9 @@ fn is_assignment(mark: Mark) -> bool {
     }
 }
 
-fn role_of(kind: &TokenKind) -> Role {
+fn role_of(kind: &TokenKind) -> Role
+    ensures { result ≡ spec.role_of kind.now }
+{
     match kind {
         TokenKind::Mark(mark) => role_of_mark(*mark),
         _ => Role::Part,
@@ -67,8 +100,12 @@ fn role_of(kind: &TokenKind) -> Role {
 
 impl Brackets {
     ghost use Rattle.gd_lexer.specs.Stops.{IsFaultAt};
+    ghost use Rattle.gd_lexis.specs.Items.{counted, closed, ended};
+    ghost use Rattle.gd_lexer.specs.Brackets as spec;
 
-    pub fn new(alloc: Global) -> Brackets {
+    pub fn new(alloc: Global) -> Brackets
+        ensures { spec.items_of result ≡ 0 ∷ [] }
+    {
         Brackets {
             item: 0,
             around: Items::new(alloc),
@@ -76,12 +113,16 @@ impl Brackets {
     }
 
     /// Whether a bracket is open.
-    pub fn is_inside(&self) -> bool {
+    pub fn is_inside(&self) -> bool
+        ensures { result ≡ nat_lt 1 (length (spec.items_of self.now)) }
+    {
         !self.around.is_empty()
     }
 
     /// Ends the running item.
-    pub fn end_item(&mut self) {
+    pub fn end_item(&mut self)
+        ensures { spec.items_of self.new ≡ ended (spec.items_of self.old) }
+    {
         self.item = 0;
     }
 
@@ -92,6 +133,7 @@ impl Brackets {
         ensures item { OnOk result ((self.old.item < 100) × (self.new.item ≡ self.old.item + 1)) }
         ensures around { self.new.around ≡ self.old.around }
         ensures full { IfErr result (IsFaultAt pos Rule.ItemTooLong (100 ≤ self.old.item)) }
+        ensures items { OnOk result (spec.items_of self.new ≡ counted (spec.items_of self.old)) }
     {
         if self.item >= MAX_ITEM {
             return Err(stop_at(pos, Rule::ItemTooLong));
@@ -106,6 +148,8 @@ impl Brackets {
         requires column { 1 ≤ pos.column }
         ensures room { OnOk result ((length self.old.around < 32) × (self.old.item < 100)) }
         ensures around { OnOk result ((self.new.around ≡ self.old.around ++ (self.old.item + 1) ∷ []) × (self.new.item ≡ 0)) }
+        ensures items { OnOk result (spec.items_of self.new ≡ spec.items_by Role.Opening (spec.items_of self.old)) }
+        ensures refused { IfErr result (spec.IsRefusal pos Role.Opening (spec.items_of self.old)) }
     {
         if self.around.len() >= MAX_BRACKETS {
             return Err(stop_at(pos, Rule::BracketsTooDeep));
@@ -120,19 +164,41 @@ impl Brackets {
     fn close(&mut self, pos: Pos) -> Result<(), Stop>
         requires line { 1 ≤ pos.line }
         requires column { 1 ≤ pos.column }
+        ensures items { OnOk result (spec.items_of self.new ≡ spec.items_by Role.Closing (spec.items_of self.old)) }
+        ensures refused { IfErr result (spec.IsRefusal pos Role.Closing (spec.items_of self.old)) }
+    {
+        self.leave();
+        self.count(pos)
+    }
+
+    /// Goes back to the item around the last open bracket, if one is open.
+    fn leave(&mut self)
+        ensures { spec.items_of self.new ≡ closed (spec.items_of self.old) }
     {
         if let Some(item) = self.around.pop() {
             self.item = item;
         }
-        self.count(pos)
     }
 
     /// Takes the token at `pos`.
+    #[tactic(auto, using(crate::proofs::BracketLemmas::items_by_kind))]
     pub fn take(&mut self, kind: &TokenKind, pos: Pos) -> Result<(), Stop>
         requires line { 1 ≤ pos.line }
         requires column { 1 ≤ pos.column }
+        ensures items { OnOk result (spec.items_of self.new ≡ spec.items_after kind.now (spec.items_of self.old)) }
+        ensures refused { IfErr result (spec.IsRefusal pos (spec.role_of kind.now) (spec.items_of self.old)) }
     {
-        match role_of(kind) {
+        self.take_by(role_of(kind), pos)
+    }
+
+    /// Takes the token of this role at `pos`.
+    fn take_by(&mut self, role: Role, pos: Pos) -> Result<(), Stop>
+        requires line { 1 ≤ pos.line }
+        requires column { 1 ≤ pos.column }
+        ensures items { OnOk result (spec.items_of self.new ≡ spec.items_by role (spec.items_of self.old)) }
+        ensures refused { IfErr result (spec.IsRefusal pos role (spec.items_of self.old)) }
+    {
+        match role {
             Role::Part => self.count(pos),
             Role::Separator => {
                 self.end_item();

@@ -1,11 +1,12 @@
 //! A place in a file, and what stands from there on.
-ghost use Rattle.std.specs.Prelude.{◌≡◌, ◌+◌, ◌-◌, ◌^◌, ◌≤◌, ◌<◌, length, slice_get, OnSome, IfNone};
-ghost use Rattle.gd_lexer.specs.Cursor.{advanced, after_glyph, start_of};
+ghost use Rattle.std.specs.Prelude.{◌≡◌, ◌+◌, ◌-◌, ◌^◌, ◌≤◌, ◌<◌, length, drop, slice_get, OnSome, IfNone};
+ghost use Rattle.gd_lexis.specs.Chars.{IsFile};
+ghost use Rattle.gd_lexer.specs.Cursor.{advanced, after_glyph, start_of, IsAt};
 ghost use Rattle.gd_lexer.specs.Cursor as spec;
 ghost use Rattle.gd_lexer.specs.Follows.{Follows};
 
 use crate::glyph;
-use crate::glyph::Glyph;
+use gd_lexis::Glyph;
 use gd_syntax::Pos;
 use std::marker::Model;
 
@@ -32,6 +33,15 @@ impl<'a> Model for Cursor<'a> {
 impl<'a> Cursor<'a> {
     /// At the start of a file, behind a byte order mark if there is one.
     pub fn new(file: u32, bytes: &'a [u8]) -> Cursor<'a>
+        requires { length bytes.now ≤ 1_048_576 }
+        ensures value { result ≡ start_of file bytes.now }
+        ensures file { IsFile bytes.now result.glyphs }
+        ensures place { IsAt file result.glyphs result }
+    {
+        Cursor::start(file, bytes)
+    }
+
+    fn start(file: u32, bytes: &'a [u8]) -> Cursor<'a>
         requires { length bytes.now ≤ 1_048_576 }
         ensures { result ≡ start_of file bytes.now }
     {
@@ -118,13 +128,14 @@ impl<'a> Cursor<'a> {
     /// Goes over the next glyph. At the end nothing happens.
     pub fn advance(&mut self)
         ensures value { self.new ≡ advanced self.old }
+        ensures rest { self.new.glyphs ≡ drop 1 self.old.glyphs }
         ensures follows { Follows self.old self.new }
         ensures fewer { length self.new.glyphs ≡ length self.old.glyphs - 1 }
     {
         let Some(glyph) = glyph::first(self.rest) else {
             return;
         };
-        let width = glyph.width();
+        let width = glyph::width(glyph);
         self.rest = glyph::behind(self.rest, width);
         self.offset += width as u32;
         self.pos = after(self.pos, glyph);
@@ -133,6 +144,7 @@ impl<'a> Cursor<'a> {
     /// Goes over the next two glyphs.
     pub fn advance_two(&mut self)
         ensures value { self.new ≡ advanced (advanced self.old) }
+        ensures rest { self.new.glyphs ≡ drop 2 self.old.glyphs }
         ensures follows { Follows self.old self.new }
         ensures fewer { length self.new.glyphs ≡ length self.old.glyphs - 2 }
     {
@@ -143,6 +155,7 @@ impl<'a> Cursor<'a> {
     /// Goes over the next three glyphs.
     pub fn advance_three(&mut self)
         ensures value { self.new ≡ advanced (advanced (advanced self.old)) }
+        ensures rest { self.new.glyphs ≡ drop 3 self.old.glyphs }
         ensures follows { Follows self.old self.new }
         ensures fewer { length self.new.glyphs ≡ length self.old.glyphs - 3 }
     {

@@ -1,27 +1,19 @@
-//! What a file is read as: its characters, and the bytes that are part of none.
+//! Reading the first glyph of some bytes.
 ghost use Rattle.std.specs.Prelude.{◌≡◌, ◌≤◌, ◌<◌, length, drop, IfSome};
 ghost use Rattle.gd_lexer.specs.Glyphs as spec;
 
 use crate::decode::decode;
+use gd_lexis::Glyph;
 
-/// A well-formed character, or a byte at which none begins. Each is one column.
-#[derive(Clone, Copy, Debug, PartialEq, Eq)]
-pub enum Glyph {
-    Char(char),
-    Bad(u8),
-}
-
-impl Glyph {
-    /// The number of its bytes.
-    pub fn width(self) -> usize
-        ensures value { result ≡ spec.width self }
-        ensures low { 1 ≤ result }
-        ensures high { result ≤ 4 }
-    {
-        match self {
-            Glyph::Char(c) => c.len_utf8(),
-            Glyph::Bad(_) => 1,
-        }
+/// The number of a glyph's bytes.
+pub fn width(glyph: Glyph) -> usize
+    ensures value { result ≡ spec.width glyph }
+    ensures low { 1 ≤ result }
+    ensures high { result ≤ 4 }
+{
+    match glyph {
+        Glyph::Char(c) => c.len_utf8(),
+        Glyph::Bad(_) => 1,
     }
 }
 
@@ -53,7 +45,7 @@ pub fn after_first(bytes: &[u8]) -> &[u8]
     ensures { result.now ≡ spec.after_first bytes.now }
 {
     match first(bytes) {
-        Some(glyph) => behind(bytes, glyph.width()),
+        Some(glyph) => behind(bytes, width(glyph)),
         None => bytes,
     }
 }

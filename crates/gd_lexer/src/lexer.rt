@@ -1,5 +1,9 @@
 //! The steps over a file.
-ghost use Rattle.std.specs.Prelude.{◌≡◌, ◌<◌, ◌≤◌, ◌+◌, ◌-◌, ◌*◌, OnOk, IfOk, IsTrue, length};
+ghost use Rattle.std.specs.Prelude.{◌≡◌, ◌<◌, ◌≤◌, ◌+◌, ◌-◌, ◌*◌, OnOk, IfOk, IfErr, IfSome, IsTrue, Some, None, length, slice_get};
+ghost use Rattle.gd_lexer.specs.declared.lexer.Start.TheVariants as starts;
+ghost use Rattle.gd_lexer.specs.Token.{IsToken, IsInner, IsFaultOf};
+ghost use Rattle.gd_lexis.specs.declared.glyph.Glyph.TheVariants.{Char};
+ghost use Rattle.gd_lexer.specs.Start as spec;
 ghost use Rattle.gd_lexer.specs.Lexical.{is_lexical};
 ghost use Rattle.gd_lexer.specs.Found.{IsNotEnd, AreWhole};
 ghost use Rattle.gd_lexer.specs.Sound.{IsSound, IsPlaced, load};
@@ -8,7 +12,6 @@ ghost use Rattle.gd_lexer.specs.Follows.{Follows};
 use crate::brackets::Brackets;
 use crate::cursor::Cursor;
 use crate::found::{Found, Span, Whole};
-use crate::glyph::Glyph;
 use crate::lines::{Blank, Lines};
 use crate::mark::mark;
 use crate::name::{begins_name, read_name};
@@ -17,8 +20,9 @@ use crate::quoted::{Body, is_quote, quoted};
 use crate::stop::{Fault, Stop, fault_at};
 use crate::stopped::stop_at;
 use crate::word::{Word, word_of};
-use gd_model::Rule;
-use gd_syntax::{Mark, Pos, Text, TokenKind};
+use gd_lexis::Glyph;
+use gd_model::{Rule, impossible};
+use gd_syntax::{Mark, Pos, Text, TextFault, TokenKind};
 use no_memory::NoMemory;
 use std::alloc::Global;
 
@@ -49,11 +53,13 @@ pub struct Lexer<'a> {
 type Scanned = (TokenKind, Option<Fault>);
 
 /// How a token begins with this character at the cursor, or `None` where none does.
-fn start_of(c: char, cursor: &Cursor) -> Option<Start> {
+fn start_of(c: char, cursor: &Cursor) -> Option<Start>
+    ensures { result ≡ spec.start_by c cursor.now.glyphs }
+{
     if c.is_ascii_digit() {
         return Some(Start::Number);
     }
-    if is_quote(c) || (c == 'r' && (cursor.sees_second('"') || cursor.sees_second('\''))) {
+    if opens_string(c, cursor) {
         return Some(Start::Quoted);
     }
     if begins_name(c) {
@@ -66,7 +72,16 @@ fn start_of(c: char, cursor: &Cursor) -> Option<Start> {
     Some(Start::Mark(mark, count))
 }
 
-fn is_digit(glyph: Option<Glyph>) -> bool {
+/// Whether a string begins with this character at the cursor.
+fn opens_string(c: char, cursor: &Cursor) -> bool
+    ensures { result ≡ spec.opens_string c cursor.now.glyphs }
+{
+    is_quote(c) || (c == 'r' && (cursor.sees_second('"') || cursor.sees_second('\'')))
+}
+
+fn is_digit(glyph: Option<Glyph>) -> bool
+    ensures { result ≡ spec.is_digit glyph }
+{
     match glyph {
         Some(Glyph::Char(c)) => c.is_ascii_digit(),
         _ => false,
@@ -108,6 +123,7 @@ impl<'a> Lexer<'a> {
     /// Goes over the next glyph, and over the token or comment that begins with it.
     fn step(&mut self, glyph: Glyph) -> Result<(), Stop>
         requires sound { IsSound self.old }
+        requires head { Some glyph ≡ slice_get self.old.cursor.glyphs 0 }
         requires more { 0 < length self.old.cursor.glyphs }
         ensures sound { OnOk result (IsSound self.new) }
         ensures follows { Follows self.old.cursor self.new.cursor }
@@ -225,8 +241,11 @@ impl<'a> Lexer<'a> {
         self.lines.end()
     }
 
+    /// Goes over the token that begins with this character, or over a character that begins none.
+    #[tactic(auto, unfolding(crate::specs::Start::start_at))]
     fn other(&mut self, c: char) -> Result<(), Stop>
         requires sound { IsSound self.old }
+        requires head { Some (Char c) ≡ slice_get self.old.cursor.glyphs 0 }
         requires more { 0 < length self.old.cursor.glyphs }
         ensures sound { OnOk result (IsSound self.new) }
         ensures follows { Follows self.old.cursor self.new.cursor }
@@ -241,6 +260,7 @@ impl<'a> Lexer<'a> {
     /// Goes over a token. The faults at its place come by their rules, before those inside it.
     fn token(&mut self, start: Start) -> Result<(), Stop>
         requires sound { IsSound self.old }
+        requires starts { Some start ≡ spec.start_at self.old.cursor.glyphs }
         requires more { 0 < length self.old.cursor.glyphs }
         ensures sound { OnOk result (IsSound self.new) }
         ensures follows { Follows self.old.cursor self.new.cursor }
@@ -314,8 +334,12 @@ impl<'a> Lexer<'a> {
 
     /// Goes over the token that begins so at `pos`.
     fn scan(&mut self, start: Start, pos: Pos) -> Result<Scanned, Stop>
+        requires starts { Some start ≡ spec.start_at self.old.cursor.glyphs }
         requires line { 1 ≤ pos.line }
         requires column { 1 ≤ pos.column }
+        ensures token { IfOk result (λ r. r.1 ≡ None → IsToken r.0 self.old.cursor.glyphs self.new.cursor.glyphs) }
+        ensures inner { IfOk result (λ r. IfSome r.1 (λ f. IsInner self.old.cursor f.pos f.rule)) }
+        ensures fault { IfErr result (IsFaultOf pos self.old.cursor.glyphs) }
         ensures found { self.new.found ≡ self.old.found }
         ensures lines { self.new.lines ≡ self.old.lines }
         ensures kind { IfOk result (λ r. IsNotEnd r.0) }
@@ -325,20 +349,60 @@ impl<'a> Lexer<'a> {
         match start {
             Start::Name(c) => self.name(c, pos),
             Start::Quoted => self.quoted(pos),
-            Start::Number => match number(&mut self.cursor) {
-                Ok(value) => Ok((TokenKind::Number(value), None)),
-                Err(rule) => Err(stop_at(pos, rule)),
-            },
-            Start::Mark(mark, count) => {
-                self.mark(count);
-                Ok((TokenKind::Mark(mark), None))
-            }
-            Start::Float => Err(stop_at(pos, Rule::Float)),
+            Start::Number => self.number(pos),
+            Start::Mark(mark, count) => Ok((self.mark(mark, count), None)),
+            Start::Float => Err(self.float(pos)),
         }
     }
 
-    /// Goes over a mark of one to three characters.
-    fn mark(&mut self, count: u8)
+    /// Goes over a number.
+    #[tactic(auto, using(crate::proofs::StartsLemmas::number_here))]
+    fn number(&mut self, pos: Pos) -> Result<Scanned, Stop>
+        requires starts { Some starts.Number ≡ spec.start_at self.old.cursor.glyphs }
+        requires line { 1 ≤ pos.line }
+        requires column { 1 ≤ pos.column }
+        ensures token { IfOk result (λ r. r.1 ≡ None → IsToken r.0 self.old.cursor.glyphs self.new.cursor.glyphs) }
+        ensures inner { IfOk result (λ r. IfSome r.1 (λ f. IsInner self.old.cursor f.pos f.rule)) }
+        ensures fault { IfErr result (IsFaultOf pos self.old.cursor.glyphs) }
+        ensures found { self.new.found ≡ self.old.found }
+        ensures lines { self.new.lines ≡ self.old.lines }
+        ensures kind { IfOk result (λ r. IsNotEnd r.0) }
+        ensures follows { Follows self.old.cursor self.new.cursor }
+        ensures fewer { OnOk result (length self.new.cursor.glyphs ≤ length self.old.cursor.glyphs - 1) }
+    {
+        match number(&mut self.cursor) {
+            Ok(value) => Ok((TokenKind::Number(value), None)),
+            Err(rule) => Err(stop_at(pos, rule)),
+        }
+    }
+
+    /// The fault of a dot before a digit.
+    fn float(&self, pos: Pos) -> Stop
+        requires starts { Some starts.Float ≡ spec.start_at self.now.cursor.glyphs }
+        requires line { 1 ≤ pos.line }
+        requires column { 1 ≤ pos.column }
+        ensures { IsFaultOf pos self.now.cursor.glyphs result }
+    {
+        stop_at(pos, Rule::Float)
+    }
+
+    /// Goes over this mark of so many characters.
+    fn mark(&mut self, mark: Mark, count: u8) -> TokenKind
+        requires starts { Some (starts.Mark mark count) ≡ spec.start_at self.old.cursor.glyphs }
+        ensures token { IsToken result self.old.cursor.glyphs self.new.cursor.glyphs }
+        ensures kind { IsNotEnd result }
+        ensures found { self.new.found ≡ self.old.found }
+        ensures lines { self.new.lines ≡ self.old.lines }
+        ensures follows { Follows self.old.cursor self.new.cursor }
+        ensures fewer { length self.new.cursor.glyphs ≤ length self.old.cursor.glyphs - 1 }
+    {
+        self.advance_by(count);
+        TokenKind::Mark(mark)
+    }
+
+    /// Goes over the characters of a mark, one to three.
+    fn advance_by(&mut self, count: u8)
+        ensures rest { self.new.cursor.glyphs ≡ spec.behind_mark count self.old.cursor.glyphs }
         ensures found { self.new.found ≡ self.old.found }
         ensures lines { self.new.lines ≡ self.old.lines }
         ensures follows { Follows self.old.cursor self.new.cursor }
@@ -352,8 +416,12 @@ impl<'a> Lexer<'a> {
     }
 
     fn name(&mut self, c: char, pos: Pos) -> Result<Scanned, Stop>
+        requires starts { Some (starts.Name c) ≡ spec.start_at self.old.cursor.glyphs }
         requires line { 1 ≤ pos.line }
         requires column { 1 ≤ pos.column }
+        ensures token { IfOk result (λ r. r.1 ≡ None → IsToken r.0 self.old.cursor.glyphs self.new.cursor.glyphs) }
+        ensures inner { IfOk result (λ r. IfSome r.1 (λ f. IsInner self.old.cursor f.pos f.rule)) }
+        ensures fault { IfErr result (IsFaultOf pos self.old.cursor.glyphs) }
         ensures found { self.new.found ≡ self.old.found }
         ensures lines { self.new.lines ≡ self.old.lines }
         ensures kind { IfOk result (λ r. IsNotEnd r.0) }
@@ -371,9 +439,14 @@ impl<'a> Lexer<'a> {
         }
     }
 
+    /// Goes over a string.
     fn quoted(&mut self, pos: Pos) -> Result<Scanned, Stop>
+        requires starts { Some starts.Quoted ≡ spec.start_at self.old.cursor.glyphs }
         requires line { 1 ≤ pos.line }
         requires column { 1 ≤ pos.column }
+        ensures token { IfOk result (λ r. r.1 ≡ None → IsToken r.0 self.old.cursor.glyphs self.new.cursor.glyphs) }
+        ensures inner { IfOk result (λ r. IfSome r.1 (λ f. IsInner self.old.cursor f.pos f.rule)) }
+        ensures fault { IfErr result (IsFaultOf pos self.old.cursor.glyphs) }
         ensures found { self.new.found ≡ self.old.found }
         ensures lines { self.new.lines ≡ self.old.lines }
         ensures kind { IfOk result (λ r. IsNotEnd r.0) }
@@ -390,10 +463,14 @@ impl<'a> Lexer<'a> {
     }
 
     /// The text of the characters that were read.
-    fn text(&self) -> Result<Text, NoMemory> {
+    fn text(&self) -> Result<Text, NoMemory>
+        ensures { IfOk result (λ t. t ≡ self.now.body.chars.items) }
+    {
         let chars = Vec::from_slice(self.alloc, self.body.chars.as_slice())?;
         match Text::of(chars) {
             Ok(text) => Ok(text),
+            // A file has fewer characters than a text may have.
+            Err(TextFault::TooLong) => Err(impossible().into()),
             Err(_) => Err(NoMemory),
         }
     }

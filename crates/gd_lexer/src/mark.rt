@@ -9,7 +9,10 @@ use gd_syntax::Mark;
 pub type Spelled = (Mark, u8);
 
 /// The longest mark at the cursor, or `None` where the next character begins none.
-pub fn mark(c: char, cursor: &Cursor) -> Option<Spelled> {
+#[tactic(auto, unfolding(crate::specs::Mark::mark_at))]
+pub fn mark(c: char, cursor: &Cursor) -> Option<Spelled>
+    ensures { result ≡ spec.mark_at c cursor.now.glyphs }
+{
     match c {
         '+' | '-' | '/' | '%' => Some(arithmetic(c, cursor)),
         '*' => Some(star(cursor)),
@@ -95,7 +98,9 @@ fn angle(c: char, cursor: &Cursor) -> Spelled
 }
 
 /// A mark of one character that begins no longer one, and the dot.
-fn single(c: char) -> Option<Spelled> {
+fn single(c: char) -> Option<Spelled>
+    ensures { result ≡ spec.single c }
+{
     let mark = match c {
         '~' => Mark::Tilde,
         '.' => Mark::Dot,

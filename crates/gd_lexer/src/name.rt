@@ -1,10 +1,12 @@
 //! Names: which characters they are made of, and reading one.
-ghost use Rattle.std.specs.Prelude.{◌≡◌, ◌||◌, ◌==◌};
+ghost use Rattle.std.specs.Prelude.{◌≡◌, ◌||◌, ◌==◌, slice_get, Some, OnOk};
 ghost use Rattle.unicode_ident.specs.Ident.{is_xid_start, is_xid_continue};
+ghost use Rattle.gd_lexis.specs.declared.glyph.Glyph.TheVariants.{Char};
+ghost use Rattle.gd_lexer.specs.Name as spec;
 ghost use Rattle.gd_lexer.specs.Follows.{Follows};
 
 use crate::cursor::Cursor;
-use crate::glyph::Glyph;
+use gd_lexis::Glyph;
 use no_memory::NoMemory;
 
 /// Whether a name can begin with the character.
@@ -21,22 +23,30 @@ pub fn continues_name(c: char) -> bool
     unicode_ident::is_xid_continue(c)
 }
 
-/// Whether a character comes next with which a name can go on.
-pub fn name_goes_on(cursor: &Cursor) -> bool {
+/// The next character, if a name can go on with it.
+pub fn next_in_name(cursor: &Cursor) -> Option<char>
+    ensures { result ≡ spec.next_in_name (slice_get cursor.now.glyphs 0) }
+{
     match cursor.peek() {
-        Some(Glyph::Char(c)) => continues_name(c),
-        _ => false,
+        Some(Glyph::Char(c)) => goes_on(c),
+        _ => None,
     }
 }
 
-/// Goes over the characters that go on a name, and adds them to `chars`.
-pub fn read_name(cursor: &mut Cursor, chars: &mut Vec<char>) -> Result<(), NoMemory>
-    ensures { Follows cursor.old cursor.new }
+fn goes_on(c: char) -> Option<char>
+    ensures { result ≡ spec.next_in_name (Some (Char c)) }
 {
-    while let Some(Glyph::Char(c)) = cursor.peek() {
-        if !continues_name(c) {
-            break;
-        }
+    if continues_name(c) { Some(c) } else { None }
+}
+
+/// Goes over the characters that go on a name, and adds them to `chars`.
+#[tactic(auto, using(crate::proofs::NameLemmas::name_more, crate::proofs::NameLemmas::name_end, crate::proofs::NameLemmas::after_name_more, crate::proofs::NameLemmas::after_name_end))]
+pub fn read_name(cursor: &mut Cursor, chars: &mut Vec<char>) -> Result<(), NoMemory>
+    ensures follows { Follows cursor.old cursor.new }
+    ensures chars { OnOk result (chars.new.items ≡ spec.name_behind chars.old.items cursor.old.glyphs) }
+    ensures rest { OnOk result (cursor.new.glyphs ≡ spec.after_name cursor.old.glyphs) }
+{
+    while let Some(c) = next_in_name(cursor) {
         chars.push(c)?;
         cursor.advance();
     }

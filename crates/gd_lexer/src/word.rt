@@ -1,4 +1,7 @@
 //! What a name stands for.
+ghost use Rattle.std.specs.Prelude.{◌≡◌, length};
+ghost use Rattle.gd_lexer.specs.Word as spec;
+
 use gd_syntax::Keyword;
 
 /// What a whole name is.
@@ -11,7 +14,10 @@ pub enum Word {
 }
 
 /// What the name of these characters is.
-pub fn word_of(chars: &[char]) -> Word {
+#[tactic(auto, unfolding(crate::specs::Word::word_at))]
+pub fn word_of(chars: &[char]) -> Word
+    ensures { result ≡ spec.word_at chars.now }
+{
     match chars.len() {
         2 => two(chars),
         3 => three(chars),
@@ -25,7 +31,10 @@ pub fn word_of(chars: &[char]) -> Word {
     }
 }
 
-fn two(chars: &[char]) -> Word {
+fn two(chars: &[char]) -> Word
+    requires { length chars.now ≡ 2 }
+    ensures { result ≡ spec.two chars.now }
+{
     match chars {
         ['i', 'f'] => Word::Keyword(Keyword::If),
         ['i', 's'] => Word::Keyword(Keyword::Is),
@@ -37,7 +46,10 @@ fn two(chars: &[char]) -> Word {
     }
 }
 
-fn three(chars: &[char]) -> Word {
+fn three(chars: &[char]) -> Word
+    requires { length chars.now ≡ 3 }
+    ensures { result ≡ spec.three chars.now }
+{
     match chars {
         ['f', 'o', 'r'] => Word::Keyword(Keyword::For),
         ['v', 'a', 'r'] => Word::Keyword(Keyword::Var),
@@ -50,7 +62,10 @@ fn three(chars: &[char]) -> Word {
     }
 }
 
-fn four(chars: &[char]) -> Word {
+fn four(chars: &[char]) -> Word
+    requires { length chars.now ≡ 4 }
+    ensures { result ≡ spec.four chars.now }
+{
     match chars {
         ['e', 'l', 'i', 'f'] => Word::Keyword(Keyword::Elif),
         ['e', 'l', 's', 'e'] => Word::Keyword(Keyword::Else),
@@ -66,7 +81,10 @@ fn four(chars: &[char]) -> Word {
     }
 }
 
-fn five(chars: &[char]) -> Word {
+fn five(chars: &[char]) -> Word
+    requires { length chars.now ≡ 5 }
+    ensures { result ≡ spec.five chars.now }
+{
     match chars {
         ['w', 'h', 'i', 'l', 'e'] => Word::Keyword(Keyword::While),
         ['m', 'a', 't', 'c', 'h'] => Word::Keyword(Keyword::Match),
@@ -81,7 +99,10 @@ fn five(chars: &[char]) -> Word {
     }
 }
 
-fn six(chars: &[char]) -> Word {
+fn six(chars: &[char]) -> Word
+    requires { length chars.now ≡ 6 }
+    ensures { result ≡ spec.six chars.now }
+{
     match chars {
         ['r', 'e', 't', 'u', 'r', 'n'] => Word::Keyword(Keyword::Return),
         ['s', 'i', 'g', 'n', 'a', 'l'] => Word::Keyword(Keyword::Signal),
@@ -91,7 +112,10 @@ fn six(chars: &[char]) -> Word {
     }
 }
 
-fn seven(chars: &[char]) -> Word {
+fn seven(chars: &[char]) -> Word
+    requires { length chars.now ≡ 7 }
+    ensures { result ≡ spec.seven chars.now }
+{
     match chars {
         ['e', 'x', 't', 'e', 'n', 'd', 's'] => Word::Keyword(Keyword::Extends),
         ['p', 'r', 'e', 'l', 'o', 'a', 'd'] => Word::Keyword(Keyword::Preload),
@@ -99,14 +123,20 @@ fn seven(chars: &[char]) -> Word {
     }
 }
 
-fn eight(chars: &[char]) -> Word {
+fn eight(chars: &[char]) -> Word
+    requires { length chars.now ≡ 8 }
+    ensures { result ≡ spec.eight chars.now }
+{
     match chars {
         ['c', 'o', 'n', 't', 'i', 'n', 'u', 'e'] => Word::Keyword(Keyword::Continue),
         _ => Word::Name,
     }
 }
 
-fn ten(chars: &[char]) -> Word {
+fn ten(chars: &[char]) -> Word
+    requires { length chars.now ≡ 10 }
+    ensures { result ≡ spec.ten chars.now }
+{
     match chars {
         ['c', 'l', 'a', 's', 's', '_', 'n', 'a', 'm', 'e'] => Word::Keyword(Keyword::ClassName),
         ['b', 'r', 'e', 'a', 'k', 'p', 'o', 'i', 'n', 't'] => Word::Keyword(Keyword::Breakpoint),

@@ -1,0 +1,40 @@
+-- Steps over the characters of a name.
+use Rattle.std.proofs.Common.{◌≡◌, ℕ, Bool, true, false, cond, List, [], ◌∷◌, ◌++◌, drop, slice_get, refl, ap, sym, ◌∙◌}
+use Rattle.std.specs.Prelude.{Option, Some, None}
+use Rattle.unicode_ident.specs.Ident.{is_xid_continue}
+use Rattle.gd_lexis.specs.declared.glyph.Glyph.{Glyph}
+use Rattle.gd_lexis.specs.declared.glyph.Glyph.TheVariants.{Char, Bad}
+use Rattle.gd_lexer.specs.Name.{next_in_name, name_behind, after_name}
+
+same_next : (b : Bool) (c d : ℕ) → Some c ≡ cond b (Some d) None → (b ≡ true) × (c ≡ d)
+same_next true c d e = (refl, cc)
+same_next false c d e = cc
+
+none_next : (b : Bool) (d : ℕ) → None ≡ cond b (Some d) None → b ≡ false
+none_next true d e = cc
+none_next false d e = refl
+
+-- a name that goes on here, and one that does not
+pub name_more : (gs : List Glyph) (cs : List ℕ) (c : ℕ) → Some c ≡ next_in_name (slice_get gs 0) → name_behind cs gs ≡ name_behind (cs ++ c ∷ []) (drop 1 gs)
+unfolding name_behind
+name_more [] cs c e = cc
+name_more (Bad b ∷ gs) cs c e = cc
+name_more (Char d ∷ gs) cs c e = let p = same_next (is_xid_continue d) c d e in rw (p.0, p.1) refl
+
+pub name_end : (gs : List Glyph) (cs : List ℕ) → None ≡ next_in_name (slice_get gs 0) → name_behind cs gs ≡ cs
+unfolding name_behind
+name_end [] cs e = refl
+name_end (Bad b ∷ gs) cs e = refl
+name_end (Char d ∷ gs) cs e = rw (none_next (is_xid_continue d) d e) refl
+
+pub after_name_more : (gs : List Glyph) (c : ℕ) → Some c ≡ next_in_name (slice_get gs 0) → after_name gs ≡ after_name (drop 1 gs)
+unfolding after_name
+after_name_more [] c e = cc
+after_name_more (Bad b ∷ gs) c e = cc
+after_name_more (Char d ∷ gs) c e = rw ((same_next (is_xid_continue d) c d e).0) refl
+
+pub after_name_end : (gs : List Glyph) → None ≡ next_in_name (slice_get gs 0) → after_name gs ≡ gs
+unfolding after_name
+after_name_end [] e = refl
+after_name_end (Bad b ∷ gs) e = refl
+after_name_end (Char d ∷ gs) e = rw (none_next (is_xid_continue d) d e) refl
