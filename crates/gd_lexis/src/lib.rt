@@ -23,10 +23,6 @@ mod glyph;
 
 pub use glyph::Glyph;
 
-mod glyph;
-
-pub use glyph::Glyph;
-
 /// Bytes are read as glyphs in at most one way.
 #[tactic(auto, using(crate::proofs::Readings::one_reading))]
 pub fn one_reading()
