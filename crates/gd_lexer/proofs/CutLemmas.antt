@@ -136,6 +136,7 @@ text_more gs hs rest on tail k =
     last : (cs : List ℕ) → All (λ c. c ≢ 10) cs → map Char cs ++ rest ≡ Char 10 ∷ drop 1 hs → (cs ≡ []) × BeginsWith (10 ∷ []) rest
     last [] a e = (refl, (drop 1 hs, e))
     last (c ∷ cs) a e = let same : c ≡ 10 = cc in absurd (All-head (λ d. d ≢ 10) c cs a same)
+
     returned : (front back : List ℕ) → on.0 ∷ k.0 ≡ front ++ 13 ∷ back → (back ≡ []) × BeginsWith (10 ∷ []) rest
     returned [] back e =
         let cr : on.0 ≡ 13 = cc in
