@@ -1,5 +1,6 @@
 //! The calls of the lexer.
 ghost use Rattle.std.specs.Prelude.{◌≡◌, ◌+◌, ◌*◌, ◌≤◌, length, IfOk, IfErr};
+ghost use Rattle.gd_lexer.specs.Cut.{AreWritten};
 ghost use Rattle.gd_lexer.specs.Found.{AreWhole};
 ghost use Rattle.gd_lexer.specs.LexFaults.{IsLexicalFault};
 
@@ -20,6 +21,9 @@ pub fn lex(alloc: Global, file: u32, bytes: &[u8]) -> Result<Vec<Token>, LexFaul
     // The places rise, the file is this one, and the last token is the only End.
     ensures whole { IfOk result (λ v. AreWhole file v.items) }
     ensures count { IfOk result (λ v. length v.items ≤ 4 * length bytes.now + 1) }
+    // The file is cut into pieces, each the longest that stands there, and the tokens but for those that the layout
+    // makes are those of the pieces, in order, each at its place.
+    ensures written { IfOk result (λ v. AreWritten file bytes.now v.items) }
     // A fault has a rule from L01 to L12.
     ensures fault { IfErr result IsLexicalFault }
 {
@@ -52,6 +56,7 @@ fn read(alloc: Global, file: u32, bytes: &[u8]) -> Result<Whole, LexFault>
     requires { length bytes.now ≤ 1_048_576 }
     ensures whole { IfOk result (λ w. AreWhole file w.tokens.items) }
     ensures count { IfOk result (λ w. length w.tokens.items ≤ 4 * length bytes.now + 1) }
+    ensures written { IfOk result (λ w. AreWritten file bytes.now w.tokens.items) }
     ensures fault { IfErr result IsLexicalFault }
 {
     match Lexer::new(alloc, file, bytes).run() {

@@ -1,12 +1,16 @@
 //! The steps over a file.
-ghost use Rattle.std.specs.Prelude.{◌≡◌, ◌<◌, ◌≤◌, ◌+◌, ◌-◌, ◌*◌, OnOk, IfOk, IfErr, IfSome, IsTrue, Some, None, length, slice_get};
+ghost use Rattle.std.specs.Prelude.{◌≡◌, ◌<◌, ◌≤◌, ◌+◌, ◌-◌, ◌*◌, ◌&&◌, OnOk, List, ℕ, true, IfOk, IfErr, IfSome, IsTrue, Some, None, length, slice_get};
 ghost use Rattle.gd_lexer.specs.declared.lexer.Start.TheVariants as starts;
 ghost use Rattle.gd_lexer.specs.Token.{IsToken, IsInner, IsFaultOf};
 ghost use Rattle.gd_lexis.specs.declared.glyph.Glyph.TheVariants.{Char};
 ghost use Rattle.gd_lexer.specs.Start as spec;
+ghost use Rattle.gd_lexis.specs.declared.glyph.Glyph.{Glyph};
+ghost use Rattle.gd_lexis.specs.Chars.{IsFile};
+ghost use Rattle.gd_lexer.specs.Cursor.{sees};
+ghost use Rattle.gd_lexer.specs.Cut.{Holds, Reads, AreWrittenBy, IsCommentText, GoesOn, code_of, written};
 ghost use Rattle.gd_lexer.specs.Lexical.{is_lexical};
 ghost use Rattle.gd_lexer.specs.Found.{IsNotEnd, AreWhole};
-ghost use Rattle.gd_lexer.specs.Sound.{IsSound, IsPlaced, load};
+ghost use Rattle.gd_lexer.specs.Sound.{IsSound, IsPlaced, load, count_of_line};
 ghost use Rattle.gd_lexer.specs.Follows.{Follows};
 
 use crate::brackets::Brackets;
@@ -95,6 +99,8 @@ impl<'a> Lexer<'a> {
         ensures sound { IsSound result }
         ensures file { result.found.last.file ≡ file }
         ensures size { result.cursor.offset + result.cursor.left ≡ length bytes.now }
+        ensures read { IsFile bytes.now result.cursor.glyphs }
+        ensures holds { Holds file result.cursor.glyphs result }
     {
         let cursor = Cursor::new(file, bytes);
         let found = Found::new(alloc, cursor.pos());
@@ -113,6 +119,7 @@ impl<'a> Lexer<'a> {
         requires { IsSound self }
         ensures whole { IfOk result (λ w. AreWhole self.entry.found.last.file w.tokens.items) }
         ensures count { IfOk result (λ w. length w.tokens.items ≤ 4 * (self.entry.cursor.offset + self.entry.cursor.left) + 1) }
+        ensures written { IfOk result (λ w. (file : ℕ) (all : List Glyph) → Holds file all self.entry → AreWrittenBy file all w.tokens.items) }
     {
         while let Some(glyph) = self.cursor.peek() {
             self.step(glyph)?;
@@ -126,27 +133,64 @@ impl<'a> Lexer<'a> {
         requires head { Some glyph ≡ slice_get self.old.cursor.glyphs 0 }
         requires more { 0 < length self.old.cursor.glyphs }
         ensures sound { OnOk result (IsSound self.new) }
+        ensures reads { OnOk result (Reads self.old self.new) }
         ensures follows { Follows self.old.cursor self.new.cursor }
         ensures fewer { OnOk result (length self.new.cursor.glyphs ≤ length self.old.cursor.glyphs - 1) }
     {
-        let Glyph::Char(c) = glyph else {
-            return self.stray(Rule::NotUtf8);
-        };
-        match c {
-            ' ' => self.blank(Blank::Space),
-            '\t' => self.blank(Blank::Tab),
-            '\n' => return self.line_end(),
-            '#' => return self.comment(),
-            '\\' => return self.join(),
-            '\r' if self.cursor.sees_second('\n') => self.cursor.advance(),
-            _ => return self.other(c),
+        match glyph {
+            Glyph::Char(c) => self.character(c),
+            Glyph::Bad(_) => self.stray(Rule::NotUtf8),
         }
-        Ok(())
+    }
+
+    /// Goes over this character, and over the token or comment that begins with it.
+    fn character(&mut self, c: char) -> Result<(), Stop>
+        requires sound { IsSound self.old }
+        requires head { Some (Char c) ≡ slice_get self.old.cursor.glyphs 0 }
+        requires more { 0 < length self.old.cursor.glyphs }
+        ensures sound { OnOk result (IsSound self.new) }
+        ensures reads { OnOk result (Reads self.old self.new) }
+        ensures follows { Follows self.old.cursor self.new.cursor }
+        ensures fewer { OnOk result (length self.new.cursor.glyphs ≤ length self.old.cursor.glyphs - 1) }
+    {
+        match c {
+            ' ' => {
+                self.blank(Blank::Space);
+                Ok(())
+            }
+            '\t' => {
+                self.blank(Blank::Tab);
+                Ok(())
+            }
+            '\n' => self.line_end(),
+            '#' => self.comment(),
+            '\\' => self.join(),
+            '\r' if self.cursor.sees_second('\n') => {
+                self.carriage_return();
+                Ok(())
+            }
+            _ => self.other(c),
+        }
+    }
+
+    /// Goes over a carriage return before its line feed.
+    fn carriage_return(&mut self)
+        requires sound { IsSound self.old }
+        requires head { Some (Char 13) ≡ slice_get self.old.cursor.glyphs 0 }
+        requires feed { sees 10 self.old.cursor.glyphs 1 ≡ true }
+        ensures sound { IsSound self.new }
+        ensures reads { Reads self.old self.new }
+        ensures follows { Follows self.old.cursor self.new.cursor }
+        ensures fewer { length self.new.cursor.glyphs ≡ length self.old.cursor.glyphs - 1 }
+    {
+        self.cursor.advance();
     }
 
     fn blank(&mut self, blank: Blank)
         requires sound { IsSound self.old }
+        requires head { Some (Char (code_of blank)) ≡ slice_get self.old.cursor.glyphs 0 }
         ensures sound { IsSound self.new }
+        ensures reads { Reads self.old self.new }
         ensures follows { Follows self.old.cursor self.new.cursor }
         ensures fewer { length self.new.cursor.glyphs ≡ length self.old.cursor.glyphs - 1 }
     {
@@ -159,6 +203,7 @@ impl<'a> Lexer<'a> {
         requires lexical { IsTrue (is_lexical rule) }
         requires sound { IsSound self.old }
         ensures sound { OnOk result (IsSound self.new) }
+        ensures reads { OnOk result (Reads self.old self.new) }
         ensures follows { Follows self.old.cursor self.new.cursor }
         ensures fewer { OnOk result (length self.new.cursor.glyphs ≤ length self.old.cursor.glyphs - 1) }
     {
@@ -170,25 +215,38 @@ impl<'a> Lexer<'a> {
     /// Goes over a backslash, which joins two lines or is a fault.
     fn join(&mut self) -> Result<(), Stop>
         requires sound { IsSound self.old }
+        requires head { Some (Char 92) ≡ slice_get self.old.cursor.glyphs 0 }
         ensures sound { OnOk result (IsSound self.new) }
+        ensures reads { OnOk result (Reads self.old self.new) }
         ensures follows { Follows self.old.cursor self.new.cursor }
         ensures fewer { OnOk result (length self.new.cursor.glyphs ≤ length self.old.cursor.glyphs - 1) }
     {
-        if self.cursor.sees_second('\n') {
+        let is_joined = self.cursor.sees_second('\n');
+        if is_joined {
             self.cursor.advance_two();
-            Ok(())
-        } else if self.cursor.sees_second('\r') && self.cursor.sees_third('\n') {
-            self.cursor.advance_three();
-            Ok(())
-        } else {
-            self.stray(Rule::StrayCharacter)
+            return Ok(());
         }
+        let is_joined_behind_return = self.sees_line_end();
+        if is_joined_behind_return {
+            self.cursor.advance_three();
+            return Ok(());
+        }
+        self.stray(Rule::StrayCharacter)
+    }
+
+    /// Whether a carriage return and its line feed come after the next glyph.
+    fn sees_line_end(&self) -> bool
+        ensures { result ≡ (sees 13 self.now.cursor.glyphs 1 && sees 10 self.now.cursor.glyphs 2) }
+    {
+        self.cursor.sees_second('\r') && self.cursor.sees_third('\n')
     }
 
     /// Goes over a comment with its `#`, up to the line's end.
     fn comment(&mut self) -> Result<(), Stop>
         requires sound { IsSound self.old }
+        requires head { Some (Char 35) ≡ slice_get self.old.cursor.glyphs 0 }
         ensures sound { OnOk result (IsSound self.new) }
+        ensures reads { OnOk result (Reads self.old self.new) }
         ensures follows { Follows self.old.cursor self.new.cursor }
         ensures fewer { OnOk result (length self.new.cursor.glyphs ≤ length self.old.cursor.glyphs - 1) }
     {
@@ -201,28 +259,40 @@ impl<'a> Lexer<'a> {
         Ok(())
     }
 
+    /// Goes over the rest of a comment, up to the line's end.
     fn comment_text(&mut self) -> Result<(), Stop>
+        ensures text { OnOk result (IsCommentText self.old.cursor.glyphs self.new.cursor.glyphs) }
         ensures follows { Follows self.old.cursor self.new.cursor }
         ensures found { self.new.found ≡ self.old.found }
         ensures lines { self.new.lines ≡ self.old.lines }
     {
-        while let Some(glyph) = self.cursor.peek() {
-            match glyph {
-                Glyph::Char('\n') => break,
-                Glyph::Char('\r') if !self.cursor.sees_second('\n') => {
-                    return Err(stop_at(self.cursor.pos(), Rule::StrayCharacter));
-                }
-                Glyph::Char(_) => self.cursor.advance(),
-                Glyph::Bad(_) => return Err(stop_at(self.cursor.pos(), Rule::NotUtf8)),
-            }
+        'text: while self.is_in_comment()? {
+            self.cursor.advance();
         }
         Ok(())
+    }
+
+    /// Whether a character of a comment comes next, and not the end of its line.
+    fn is_in_comment(&self) -> Result<bool, Stop>
+        ensures { IfOk result (λ b. GoesOn b self.now.cursor.glyphs) }
+    {
+        match self.cursor.peek() {
+            None => Ok(false),
+            Some(Glyph::Char('\n')) => Ok(false),
+            Some(Glyph::Char('\r')) if !self.cursor.sees_second('\n') => {
+                Err(stop_at(self.cursor.pos(), Rule::StrayCharacter))
+            }
+            Some(Glyph::Char(_)) => Ok(true),
+            Some(Glyph::Bad(_)) => Err(stop_at(self.cursor.pos(), Rule::NotUtf8)),
+        }
     }
 
     /// Goes over a line feed. Inside brackets it is a blank.
     fn line_end(&mut self) -> Result<(), Stop>
         requires sound { IsSound self.old }
+        requires head { Some (Char 10) ≡ slice_get self.old.cursor.glyphs 0 }
         ensures sound { OnOk result (IsSound self.new) }
+        ensures reads { OnOk result (Reads self.old self.new) }
         ensures follows { Follows self.old.cursor self.new.cursor }
         ensures fewer { OnOk result (length self.new.cursor.glyphs ≤ length self.old.cursor.glyphs - 1) }
     {
@@ -232,13 +302,26 @@ impl<'a> Lexer<'a> {
         if self.brackets.is_inside() {
             return Ok(());
         }
-        if self.lines.is_open() {
-            let end = self.cursor.offset();
-            self.found
-                .push(pos, TokenKind::Newline, Span { start, end })?;
-            self.brackets.end_item();
-        }
+        let end = self.cursor.offset();
+        self.newline(pos, Span { start, end })?;
         self.lines.end()
+    }
+
+    /// Ends the line with Newline at `pos`, of these bytes, if it has a token.
+    fn newline(&mut self, pos: Pos, span: Span) -> Result<(), Stop>
+        requires { IsPlaced self.old pos }
+        ensures placed { OnOk result (IsPlaced self.new pos) }
+        ensures count { OnOk result (length self.new.found.tokens ≤ length self.old.found.tokens + count_of_line self.old.lines.is_open) }
+        ensures written { OnOk result (written self.new.found.tokens ≡ written self.old.found.tokens) }
+        ensures lines { self.new.lines ≡ self.old.lines }
+        ensures cursor { self.new.cursor ≡ self.old.cursor }
+    {
+        if !self.lines.is_open() {
+            return Ok(());
+        }
+        self.found.push(pos, TokenKind::Newline, span)?;
+        self.brackets.end_item();
+        Ok(())
     }
 
     /// Goes over the token that begins with this character, or over a character that begins none.
@@ -248,6 +331,7 @@ impl<'a> Lexer<'a> {
         requires head { Some (Char c) ≡ slice_get self.old.cursor.glyphs 0 }
         requires more { 0 < length self.old.cursor.glyphs }
         ensures sound { OnOk result (IsSound self.new) }
+        ensures reads { OnOk result (Reads self.old self.new) }
         ensures follows { Follows self.old.cursor self.new.cursor }
         ensures fewer { OnOk result (length self.new.cursor.glyphs ≤ length self.old.cursor.glyphs - 1) }
     {
@@ -263,6 +347,7 @@ impl<'a> Lexer<'a> {
         requires starts { Some start ≡ spec.start_at self.old.cursor.glyphs }
         requires more { 0 < length self.old.cursor.glyphs }
         ensures sound { OnOk result (IsSound self.new) }
+        ensures reads { OnOk result (Reads self.old self.new) }
         ensures follows { Follows self.old.cursor self.new.cursor }
         ensures fewer { OnOk result (length self.new.cursor.glyphs ≤ length self.old.cursor.glyphs - 1) }
     {
@@ -271,10 +356,7 @@ impl<'a> Lexer<'a> {
         let deeper = self.open_line(pos, at)?;
         let (kind, inner) = self.scan(start, pos)?;
         self.take(&kind, pos)?;
-        if let Some(level) = deeper {
-            self.lines.open_block(level, pos)?;
-            self.found.push_empty(pos, TokenKind::Indent, at)?;
-        }
+        self.deepen(deeper, pos, at)?;
         if let Some(fault) = inner {
             return Err(Stop::Fault(fault));
         }
@@ -286,6 +368,23 @@ impl<'a> Lexer<'a> {
         Ok(())
     }
 
+    /// Opens the block at this level, if there is one to open, before the token at `pos`.
+    fn deepen(&mut self, deeper: Option<u32>, pos: Pos, at: u32) -> Result<(), Stop>
+        requires { IsPlaced self.old pos }
+        ensures placed { OnOk result (IsPlaced self.new pos) }
+        ensures load { OnOk result (load self.new ≤ load self.old + 2) }
+        ensures cursor { self.new.cursor ≡ self.old.cursor }
+        ensures written { OnOk result (written self.new.found.tokens ≡ written self.old.found.tokens) }
+        ensures hidden { OnOk result (self.new.lines.lead ≡ self.old.lines.lead) }
+    {
+        let Some(level) = deeper else {
+            return Ok(());
+        };
+        self.lines.open_block(level, pos)?;
+        self.found.push_empty(pos, TokenKind::Indent, at)?;
+        Ok(())
+    }
+
     /// Begins a logical line where the token at `pos` is its first, and closes the blocks that end before it.
     /// The answer is the level of a block that begins with it.
     fn open_line(&mut self, pos: Pos, at: u32) -> Result<Option<u32>, Stop>
@@ -293,6 +392,8 @@ impl<'a> Lexer<'a> {
         ensures placed { OnOk result (IsPlaced self.new pos) }
         ensures load { OnOk result (load self.new ≤ load self.old + 1) }
         ensures cursor { self.new.cursor ≡ self.old.cursor }
+        ensures written { OnOk result (written self.new.found.tokens ≡ written self.old.found.tokens) }
+        ensures hidden { OnOk result (self.new.lines.lead ≡ self.old.lines.lead) }
     {
         if self.lines.is_open() {
             return Ok(None);
@@ -314,6 +415,8 @@ impl<'a> Lexer<'a> {
         ensures placed { OnOk result (IsPlaced self.new pos) }
         ensures load { OnOk result (load self.new ≤ load self.old) }
         ensures cursor { self.new.cursor ≡ self.old.cursor }
+        ensures written { OnOk result (written self.new.found.tokens ≡ written self.old.found.tokens) }
+        ensures hidden { OnOk result (self.new.lines.lead ≡ self.old.lines.lead) }
     {
         'above: while level < self.lines.level() {
             self.lines.close_block();
@@ -480,12 +583,11 @@ impl<'a> Lexer<'a> {
         requires { IsSound self }
         ensures whole { IfOk result (λ w. AreWhole self.entry.cursor.pos.file w.tokens.items) }
         ensures count { IfOk result (λ w. length w.tokens.items ≤ load self.entry + 1) }
+        ensures written { IfOk result (λ w. (self.entry.lines.lead.hidden ≡ None) × (written w.tokens.items ≡ written self.entry.found.tokens)) }
     {
         let pos = self.cursor.pos();
         let at = self.cursor.offset();
-        if self.lines.is_open() {
-            self.found.push_empty(pos, TokenKind::Newline, at)?;
-        }
+        self.newline(pos, Span { start: at, end: at })?;
         self.lines.end()?;
         self.close_blocks(0, pos, at)?;
         let Lexer { found, .. } = self;

@@ -1,10 +1,16 @@
-use Rattle.std.proofs.Common.{length, ◌≡◌, ◌≤◌, ◌+◌}
+use Rattle.std.proofs.Common.{length, ◌≡◌, List}
+use Rattle.gd_lexis.specs.declared.glyph.Glyph.{Glyph}
 use Rattle.gd_lexer.specs.Follows.{Follows}
-use Rattle.gd_lexer.specs.Sound.{IsSound, IsPlaced, load}
+use Rattle.gd_lexer.specs.Cut.{IsCommentText}
 use Rattle.gd_lexer.proofs.lexer.Lexer.comment_text.Given as goal
 
-abbrev pub invariant-loop-glyph : goal.invariant-loop-glyph
-invariant-loop-glyph l = Follows l.initial.self.cursor l.self.cursor × (l.self.found ≡ l.initial.self.found) × (l.self.lines ≡ l.initial.self.lines)
+abbrev pub invariant-text : goal.invariant-text
+invariant-text l = record {
+  follows : Follows l.initial.self.cursor l.self.cursor;
+  found : l.self.found ≡ l.initial.self.found;
+  lines : l.self.lines ≡ l.initial.self.lines;
+  text : (rest : List Glyph) → IsCommentText l.self.cursor.glyphs rest → IsCommentText l.initial.self.cursor.glyphs rest;
+}
 
-abbrev pub decreases-loop-glyph : goal.decreases-loop-glyph
-decreases-loop-glyph l = length l.self.cursor.glyphs
+abbrev pub decreases-text : goal.decreases-text
+decreases-text l = length l.self.cursor.glyphs
