@@ -118,6 +118,27 @@ record IsRead (text : List ℕ) (gs rest : List Glyph) : Type 0 where
   whole : gs ≡ map Char text ++ rest
   name : IsName text
   longest : IsLongest text gs
+  unopened : text ≡ 114 ∷ [] → BeginsBy (λ c. (c ≡ 34) ⊎ (c ≡ 39)) rest → ⊥
+
+-- `r` before a quote opens a string
+opens_raw : (d : ℕ) (gs : List Glyph) → (d ≡ 34) ⊎ (d ≡ 39) → opens_string 114 (Char 114 ∷ Char d ∷ gs) ≡ true
+opens_raw d gs (inl e) = ap (λ x. opens_string 114 (Char 114 ∷ Char x ∷ gs)) e
+opens_raw d gs (inr e) = ap (λ x. opens_string 114 (Char 114 ∷ Char x ∷ gs)) e
+
+not_both : (b : Bool) → b ≡ true → b ≡ false → ⊥
+not_both b h k = let same : true ≡ false = sym h ∙ k in cc
+
+first_code : (c d : ℕ) (cs ds : List ℕ) → c ∷ cs ≡ d ∷ ds → (c ≡ d) × (cs ≡ ds)
+first_code c d cs ds e = (cc, cc)
+
+behind_first : (c : ℕ) (gs hs : List Glyph) → Char c ∷ gs ≡ Char c ∷ hs → gs ≡ hs
+behind_first c gs hs e = cc
+
+no_raw : (c : ℕ) (cs : List ℕ) (gs rest : List Glyph) → Char c ∷ gs ≡ map Char (c ∷ cs) ++ rest → opens_string c (Char c ∷ gs) ≡ false → c ∷ cs ≡ 114 ∷ [] → BeginsBy (λ d. (d ≡ 34) ⊎ (d ≡ 39)) rest → ⊥
+no_raw c cs gs rest whole opens e b =
+    let parts = first_code c 114 cs [] e in
+    let tail : gs ≡ Char b.0 ∷ b.2.0 = behind_first c gs (map Char cs ++ rest) whole ∙ ap (λ t. map Char t ++ rest) parts.1 ∙ b.2.1 in
+    not_both (opens_string c (Char c ∷ gs)) (ap (λ x. opens_string x (Char x ∷ gs)) parts.0 ∙ ap (λ t. opens_string 114 (Char 114 ∷ t)) tail ∙ opens_raw b.0 b.2.0 b.1) opens
 
 name_onto : (cs : List ℕ) (gs : List Glyph) → name_behind cs gs ≡ cs ++ name_behind [] gs
 unfolding name_behind
@@ -140,6 +161,7 @@ name_read c gs h opens =
       whole = whole;
       name = (h, name_goes_on [] gs (All-nil GoesOn));
       longest = subst R (sym whole) (name_IsLongest c cs (after_name gs) h (subst Q whole opens) (name_stops gs));
+      unopened = no_raw c cs gs (after_name gs) whole opens;
     }
 
 -- ---- the token or the fault that the name is
@@ -152,7 +174,7 @@ Meets words.Float text gs rest = IsBrokenAt rules_of.Float gs
 by_word : (w : Word) (text : List ℕ) (gs rest : List Glyph) → word_at text ≡ w → Tells text w → IsRead text gs rest → Meets w text gs rest
 by_word words.Name text gs rest e told r =
     let P : List Glyph → Type 0 = λ t. IsLongest text t in
-    (text, r.whole, ((r.name, refl, no_keyword text e), subst P r.whole r.longest, no_float text e))
+    (text, r.whole, ((r.name, refl, no_keyword text e), subst P r.whole r.longest, (no_float text e, r.unopened)))
 by_word (words.Keyword k) text gs rest e told r =
     let P : List Glyph → Type 0 = λ t. IsLongest text t in
     (text, r.whole, (told, subst P r.whole r.longest, tt))

@@ -109,7 +109,7 @@ token_code gs h = (h.0, h.2.0, h.2.1, code_of h.0 h.1)
 
 -- ---- where a token stands, one begins
 
-word_start : (c : ℕ) → IsTrue (is_xid_start c || (c == 95)) → IsTrue (((is_xid_start c || (c == 95)) || (c == 34)) || (c == 39))
+pub word_start : (c : ℕ) → IsTrue (is_xid_start c || (c == 95)) → IsTrue (((is_xid_start c || (c == 95)) || (c == 34)) || (c == 39))
 word_start c h = or_left ((is_xid_start c || (c == 95)) || (c == 34)) (c == 39) (or_left (is_xid_start c || (c == 95)) (c == 34) h)
 
 alphabetic : (c : ℕ) → IsInRange 97 122 c → is_ascii_alphabetic c ≡ true

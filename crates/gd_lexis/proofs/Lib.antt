@@ -20,3 +20,4 @@ pub mod Short
 pub mod Samples
 pub mod SampleFault
 pub mod Counts
+pub mod SampleRaw

@@ -256,7 +256,7 @@ float_word name (inr (inr (inl e))) = let P : List ℕ → Type 0 = λ t. Writes
 float_word name (inr (inr (inr e))) = let P : List ℕ → Type 0 = λ t. Writes (kinds.Word t) t in subst P (sym e) (three_capitals 78 65 78 (omega arith) (omega arith) (omega arith), refl, no_keyword (codes "NAN") refl)
 
 float_name : (name : List ℕ) (gs : List Glyph) (ps : List Piece) → IsFloatName name → Next (kinds.Word name) name gs ps → ⊥
-float_name name gs ps h (next_piece more rest e f clear b) = clear h
+float_name name gs ps h (next_piece more rest e f clear b) = clear.0 h
 
 pub float : (before : List Piece) (gs ahead : List Glyph) (ps : List Piece) → IsCut gs ps [] → Breaks rules.Float before gs ahead → ⊥
 float before gs ahead ps h (e, inl k) = elim k.6 [

@@ -2,7 +2,7 @@
 use Rattle.gd_lexis.proofs.Lists.{cons_parts}
 use Rattle.gd_lexis.specs.declared.glyph.Glyph.{Glyph}
 use Rattle.std.proofs.Common.{◌≡◌, ◌≢◌, ℕ, ◌<◌, ◌≤◌, Bool, true, false, List, [], ◌∷◌, ◌++◌, map, refl, ap, sym, inl, inr, arith, nat_lt, ◌&&◌, append-nil, nat_le, length, subst, true≢false}
-use Rattle.std.specs.Prelude.{All}
+use Rattle.std.specs.Prelude.{◌⊎◌, All}
 use Rattle.std.proofs.lemmas.List.Elements.{All-nil, All-cons, All-head, All-tail}
 use Rattle.std.proofs.lemmas.Bool.{and_parts, ltb-true, leb-true}
 use Rattle.std.proofs.lemmas.Str.{encode_ascii}
@@ -22,7 +22,7 @@ use Rattle.gd_lexis.specs.Pieces.{Piece, Blank, LineFeed, Comment, Tok, Writes, 
 use Rattle.gd_lexis.specs.Lexes.{IsWithin, Lexes}
 use Rattle.gd_lexis.specs.Lines.{laid, lead}
 use Rattle.gd_lexis.specs.Trials.{OneName, OneMark, OneString, OnePair, OneMarked, TwoBlocks, OneBracketed, OneComment}
-use Rattle.gd_lexis.proofs.Cuts.{glyph_not_empty}
+use Rattle.gd_lexis.proofs.Cuts.{char_parts, glyph_not_empty}
 use Rattle.gd_lexis.proofs.Heads.{lower_start}
 use Rattle.gd_lexis.proofs.Indents.{IsIndented, IsOne}
 use Rattle.gd_lexis.proofs.Numerals.{no_keyword}
@@ -56,7 +56,7 @@ no_float c h (inr (inr (inl e))) = omega (arith, first_code c 73 [] (78 ∷ 70 �
 no_float c h (inr (inr (inr e))) = omega (arith, first_code c 78 [] (65 ∷ 78 ∷ []) e)
 
 name_at_end : (c : ℕ) → IsInRange 97 122 c → Stands (Tok (kinds.Word (c ∷ [])) (c ∷ [])) []
-name_at_end c h = (letter_name c h, longest_at_end (c ∷ []), no_float c (omega arith))
+name_at_end c h = (letter_name c h, longest_at_end (c ∷ []), (no_float c (omega arith), λ e b. glyph_not_empty (Char b.0) b.2.0 (sym b.2.1)))
 
 -- ---- lines
 
@@ -169,8 +169,11 @@ one_marked = record {
 
 -- ---- blocks
 
+no_quote_feed : (c : ℕ) (vs us : List Glyph) → (c ≡ 34) ⊎ (c ≡ 39) → Char 10 ∷ us ≡ Char c ∷ vs → ⊥
+no_quote_feed c vs us h e = omega (arith, (char_parts 10 c us vs e).0)
+
 letter_stands : (c : ℕ) (us : List Glyph) → IsInRange 97 122 c → Stands (Tok (kinds.Word (c ∷ [])) (c ∷ [])) (Char 10 ∷ us)
-letter_stands c us h = (letter_name c h, letter_longest c 10 us (inr (inl h)) (is_xid_continue-ascii 10 (omega arith)) (omega arith) (omega arith), no_float c (omega arith))
+letter_stands c us h = (letter_name c h, letter_longest c 10 us (inr (inl h)) (is_xid_continue-ascii 10 (omega arith)) (omega arith) (omega arith), (no_float c (omega arith), λ e b. no_quote_feed b.0 b.2.0 us b.1 b.2.1))
 
 pub two_blocks : TwoBlocks
 two_blocks =

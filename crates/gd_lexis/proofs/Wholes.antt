@@ -19,15 +19,15 @@ use Rattle.gd_lexis.proofs.Quotes.{inside_of, raw_body}
 
 -- ---- texts as glyphs
 
-abbrev glyphs_opened : Bool → List Glyph → List Glyph
+abbrev pub glyphs_opened : Bool → List Glyph → List Glyph
 glyphs_opened true gs = Char 114 ∷ gs
 glyphs_opened false gs = gs
 
-opened_one : (r : Bool) (m : ℕ) (us : List Glyph) → map Char (opening (one r m)) ++ us ≡ glyphs_opened r (Char m ∷ us)
+pub opened_one : (r : Bool) (m : ℕ) (us : List Glyph) → map Char (opening (one r m)) ++ us ≡ glyphs_opened r (Char m ∷ us)
 opened_one true m us = refl
 opened_one false m us = refl
 
-opened_three : (r : Bool) (m : ℕ) (us : List Glyph) → map Char (opening (three r m)) ++ us ≡ glyphs_opened r (Char m ∷ Char m ∷ Char m ∷ us)
+pub opened_three : (r : Bool) (m : ℕ) (us : List Glyph) → map Char (opening (three r m)) ++ us ≡ glyphs_opened r (Char m ∷ Char m ∷ Char m ∷ us)
 opened_three true m us = refl
 opened_three false m us = refl
 
@@ -49,11 +49,11 @@ same_glyphs false false m n us vs h k e = let same = char_parts m n us vs e in (
 abbrev pub Found : Quote → List Glyph → Type 0
 Found q gs = (body : List ℕ) × (t : List ℕ) × (rest : List Glyph) × Body q body t × (gs ≡ map Char (opening q) ++ (map Char body ++ (map Char (closing q) ++ rest)))
 
-single_glyphs : (r : Bool) (n : ℕ) (body text : List ℕ) (more : List Glyph) → text ≡ opened r (n ∷ body ++ n ∷ []) → map Char text ++ more ≡ glyphs_opened r (Char n ∷ map Char body ++ (Char n ∷ more))
+pub single_glyphs : (r : Bool) (n : ℕ) (body text : List ℕ) (more : List Glyph) → text ≡ opened r (n ∷ body ++ n ∷ []) → map Char text ++ more ≡ glyphs_opened r (Char n ∷ map Char body ++ (Char n ∷ more))
 single_glyphs r n body text more e =
     ap (λ t. map Char t ++ more) e ∙ text_opened r (n ∷ body ++ n ∷ []) more ∙ ap (λ t. glyphs_opened r (Char n ∷ t)) (joined_glyphs body (n ∷ []) more)
 
-triple_glyphs : (r : Bool) (n : ℕ) (body text : List ℕ) (more : List Glyph) → text ≡ opened r (n ∷ n ∷ n ∷ body ++ n ∷ n ∷ n ∷ [])
+pub triple_glyphs : (r : Bool) (n : ℕ) (body text : List ℕ) (more : List Glyph) → text ≡ opened r (n ∷ n ∷ n ∷ body ++ n ∷ n ∷ n ∷ [])
     → map Char text ++ more ≡ glyphs_opened r (Char n ∷ Char n ∷ Char n ∷ map Char body ++ (Char n ∷ Char n ∷ Char n ∷ more))
 triple_glyphs r n body text more e =
     ap (λ t. map Char t ++ more) e ∙ text_opened r (n ∷ n ∷ n ∷ body ++ n ∷ n ∷ n ∷ []) more

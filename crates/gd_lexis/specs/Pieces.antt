@@ -52,11 +52,11 @@ IsLineEnd cs = (cs ≡ 10 ∷ []) ⊎ (cs ≡ 13 ∷ 10 ∷ [])
 abbrev pub IsLongest : List ℕ → List Glyph → Type 0
 IsLongest text gs = (longer : List ℕ) (kind : TokenKind) → length text < length longer → BeginsWith longer gs → Writes kind longer → ⊥
 
--- The token has no fault of its own. A name is no float's, and a number is within the limit, with no letter, digit or `_`
--- directly behind it and, if it is decimal, no dot; a dot is not before a digit; and an empty string is not the front of
--- three quotes.
+-- The token has no fault of its own. A name is no float's, and no `r` that opens a string; a number is within the limit,
+-- with no letter, digit or `_` directly behind it and, if it is decimal, no dot; a dot is not before a digit; and an empty
+-- string is not the front of three quotes.
 abbrev pub IsClear : TokenKind → List ℕ → List Glyph → Type 0
-IsClear (kinds.Word name) text rest = IsFloatName text → ⊥
+IsClear (kinds.Word name) text rest = (IsFloatName text → ⊥) × (text ≡ 114 ∷ [] → BeginsBy (λ c. (c ≡ 34) ⊎ (c ≡ 39)) rest → ⊥)
 IsClear (kinds.Number n) text rest =
     ((v : ℕ) → WritesNumber text v → v < 2 ^ 63) × (BeginsBy GoesOn rest → ⊥) × ((v : ℕ) → WritesDecimal text v → BeginsWith (46 ∷ []) rest → ⊥)
 IsClear (kinds.Mark m) text rest = text ≡ 46 ∷ [] → BeginsBy (IsDigit 10) rest → ⊥

@@ -3,7 +3,7 @@ use Rattle.std.specs.Prelude.{ℕ, [], ◌∷◌, codes}
 use Rattle.gd_syntax.specs.declared.pos.Pos.{Pos}
 use Rattle.gd_syntax.specs.declared.token.TokenKind.TheVariants as kinds
 use Rattle.gd_syntax.specs.declared.token.Mark.TheVariants.{LeftParen, RightParen, ShiftLeft}
-use Rattle.gd_model.specs.declared.rule.Rule.TheVariants.{Float}
+use Rattle.gd_model.specs.declared.rule.Rule.TheVariants.{Float, NotUtf8}
 use Rattle.gd_lexis.specs.Lines.{token}
 use Rattle.gd_lexis.specs.Lexes.{Lexes}
 use Rattle.gd_lexis.specs.Faults.{FirstFault}
@@ -51,3 +51,7 @@ OneComment = Lexes 0 (codes "#\r\n") (token (place 2 1) kinds.End ∷ [])
 -- a number with a dot behind it is a float, and refused
 abbrev pub OneFloat : Type 0
 OneFloat = FirstFault 0 (codes "1.5") (place 1 1) Float
+
+-- a raw string has no escapes: its only fault is a byte that is part of no character
+abbrev pub OneRaw : Type 0
+OneRaw = FirstFault 0 (114 ∷ 34 ∷ 92 ∷ 113 ∷ 0xFF ∷ 34 ∷ []) (place 1 5) NotUtf8

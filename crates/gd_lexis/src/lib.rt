@@ -17,7 +17,7 @@ ghost use Rattle.gd_lexis.specs.Pieces.{Writes};
 ghost use Rattle.gd_syntax.specs.declared.token.Token.{Token};
 ghost use Rattle.gd_lexis.specs.Lexes.{Lexes};
 ghost use Rattle.gd_lexis.specs.Faults.{FirstFault, IsBroken, number};
-ghost use Rattle.gd_lexis.specs.Trials.{OneBracketed, OneComment, OneFloat, OneMark, OneMarked, OneName, OnePair, OneString, TwoBlocks};
+ghost use Rattle.gd_lexis.specs.Trials.{OneBracketed, OneComment, OneFloat, OneMark, OneMarked, OneName, OnePair, OneRaw, OneString, TwoBlocks};
 
 mod glyph;
 
@@ -88,4 +88,5 @@ pub fn trials()
     ensures bracketed { OneBracketed }
     ensures comment { OneComment }
     ensures float { OneFloat }
+    ensures raw { OneRaw }
 {}
