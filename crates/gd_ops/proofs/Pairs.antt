@@ -55,7 +55,8 @@ copy_more d all new i k kk v vv e few ea ep ek ev en =
     let put = ap (λ (n : DictThing). n.pairs) en in
     let pairs : new.pairs ≡ with_pair all.pairs k v = put ∙ (λ j. with_pair all.pairs (ek j) (ev j)) in
     let more : length (with_pair all.pairs k v) ≤ length all.pairs + 1 = pair_length all.pairs k v in
-    let same : length new.pairs ≡ length (with_pair all.pairs k v) = ap length pairs in
-    (omega arith,
-    en ∙ ap (λ (a : DictThing). record a { pairs = with_pair all.pairs kk vv }) ea ∙ ap (λ ps. record d { fixed = false; pairs = ps }) (sym put),
-    ap (λ ps. put_all ps (drop (i + 1) d.pairs)) pairs ∙ put_more d.pairs all.pairs i k v e ∙ ep)
+    let same : length new.pairs ≡ length (with_pair all.pairs k v) = ap length pairs in (
+      omega arith,
+      en ∙ ap (λ (a : DictThing). record a { pairs = with_pair all.pairs kk vv }) ea ∙ ap (λ ps. record d { fixed = false; pairs = ps }) (sym put),
+      ap (λ ps. put_all ps (drop (i + 1) d.pairs)) pairs ∙ put_more d.pairs all.pairs i k v e ∙ ep,
+    )

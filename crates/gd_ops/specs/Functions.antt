@@ -61,7 +61,7 @@ abbrev pub posmod : ℤ → ℤ → Option (Result ℤ RunFault)
 posmod x y =
     if int_eq y (pos 0) then Some (Err ZeroDivisorOrStep)
     else (let rest = int_rem x y in
-        if (int_lt rest (pos 0) && int_lt (pos 0) y) || (int_lt (pos 0) rest && int_lt y (pos 0)) then Some (Ok (int_wrapping_add w64 rest y)) else Some (Ok rest))
+    if (int_lt rest (pos 0) && int_lt (pos 0) y) || (int_lt (pos 0) rest && int_lt y (pos 0)) then Some (Ok (int_wrapping_add w64 rest y)) else Some (Ok rest))
 
 -- the functions of one int and of two
 abbrev pub of_int : Builtin → ℤ → ℤ

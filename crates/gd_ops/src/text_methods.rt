@@ -40,12 +40,7 @@ pub fn call_on_text<K: Look>(
     }
 }
 
-fn join<K: Look>(
-    alloc: Global,
-    a: &Text,
-    args: &[Value],
-    look: &K,
-) -> Result<Fresh, ThingFault>
+fn join<K: Look>(alloc: Global, a: &Text, args: &[Value], look: &K) -> Result<Fresh, ThingFault>
     ensures { JoinGives (K.things look.now) (K.names look.now) a.now args.now result }
 {
     match args {
@@ -86,12 +81,7 @@ fn call_without_things(
     }
 }
 
-fn call_alone(
-    alloc: Global,
-    method: Builtin,
-    a: &Text,
-    args: &[Value],
-) -> Result<Fresh, ThingFault>
+fn call_alone(alloc: Global, method: Builtin, a: &Text, args: &[Value]) -> Result<Fresh, ThingFault>
     ensures { Answers (spec.alone (spec.text_alone method a.now) args.now) result }
 {
     match args {
