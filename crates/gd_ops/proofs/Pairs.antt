@@ -1,5 +1,5 @@
 -- How the pairs of a dictionary are gone through place by place.
-use Rattle.std.proofs.Common.{◌≡◌, ℕ, suc, ◌+◌, ◌<◌, ◌≤◌, Bool, true, false, List, [], ◌∷◌, ◌++◌, length, map, take, drop, get_or, slice_get, Option, None, Some, Result, Ok, Err, refl, ap, sym, ◌∙◌, add-one, cond, if◌then◌else◌, arith}
+use Rattle.std.proofs.Common.{◌≡◌, ℕ, suc, ◌+◌, ◌≤◌, Bool, true, false, List, [], ◌∷◌, ◌++◌, length, map, take, drop, get_or, slice_get, Option, Some, Result, Ok, ap, sym, ◌∙◌, add-one, if◌then◌else◌, arith}
 use Rattle.std.proofs.Math.Seq.{drop-cons, take-suc}
 use Rattle.std.proofs.lemmas.List.{map-append}
 use Rattle.std.proofs.lemmas.Option.{get_or_from_slice_get, slice_get_within}
@@ -9,7 +9,7 @@ use Rattle.gd_model.specs.declared.value.Value.{Value}
 use Rattle.gd_model.specs.Key.{same_key}
 use Rattle.gd_model.specs.Thing.{ArrayThing, DictThing, with_pair}
 use Rattle.gd_containers.specs.Keys.{key_value}
-use Rattle.gd_ops.specs.Answer.{and_then, exact}
+use Rattle.gd_ops.specs.Answer.{and_then}
 use Rattle.gd_ops.specs.Methods.{keys_array, values_array, first_key, put_all}
 
 -- the pairs up to and with that at place i

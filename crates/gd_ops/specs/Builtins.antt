@@ -1,5 +1,5 @@
 -- What the builtins give on their arguments.
-use Rattle.std.specs.Prelude.{◌≡◌, ⊤, ℕ, zero, suc, ◌<◌, nat_lt, nat_le, Bool, true, false, ◌&&◌, ◌||◌, codes, List, [], ◌∷◌, option_map, Option, None, Some, Result, Ok, Err, ℤ, pos, negsuc, ◌+ℤ◌, int_lt, if◌then◌else◌}
+use Rattle.std.specs.Prelude.{◌≡◌, ⊤, ℕ, nat_lt, nat_le, Bool, true, false, ◌&&◌, ◌||◌, codes, List, [], ◌∷◌, option_map, Option, None, Some, Result, Ok, Err, ℤ, pos, negsuc, if◌then◌else◌}
 use Rattle.std.specs.Ordering.{int_eq}
 use Rattle.slot_arena.specs.declared.handle.Handle.{Handle}
 use Rattle.gd_model.specs.declared.fault.RunFault.{RunFault}
@@ -8,7 +8,6 @@ use Rattle.gd_model.specs.declared.ty.Ty.TheVariants as ty
 use Rattle.gd_model.specs.declared.value.Value.{Value}
 use Rattle.gd_model.specs.declared.value.Value.TheVariants as v
 use Rattle.gd_model.specs.Store.{Thing}
-use Rattle.gd_model.specs.Thing.{ArrayThing}
 use Rattle.gd_containers.specs.declared.fault.ThingFault.{ThingFault}
 use Rattle.gd_containers.specs.declared.fault.ThingFault.TheVariants.{Run, NoMemory}
 use Rattle.gd_ops.specs.declared.builtin.Builtin.{Builtin}

@@ -1,4 +1,4 @@
-use Rattle.std.proofs.Common.{◌≡◌, ℕ, List, [], ◌∷◌, Some, subst}
+use Rattle.std.proofs.Common.{ℕ, List, [], ◌∷◌, Some, subst}
 use Rattle.gd_text.specs.Text.{Gives}
 use Rattle.gd_ops.proofs.makers.one_character.Goals as goal
 
