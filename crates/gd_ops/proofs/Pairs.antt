@@ -1,5 +1,5 @@
 -- How the pairs of a dictionary are gone through place by place.
-use Rattle.std.proofs.Common.{◌≡◌, ℕ, suc, ◌+◌, ◌<◌, ◌≤◌, Bool, true, false, List, [], ◌∷◌, ◌++◌, length, map, take, drop, get_or, slice_get, Option, None, Some, Result, Ok, Err, refl, ap, sym, ◌∙◌, add-one, cond, if◌then◌else◌, arith}
+use Rattle.std.proofs.Common.{◌≡◌, ℕ, suc, ◌+◌, ◌≤◌, Bool, true, false, List, [], ◌∷◌, ◌++◌, length, map, take, drop, get_or, slice_get, Option, Some, Result, Ok, ap, sym, ◌∙◌, add-one, if◌then◌else◌, arith}
 use Rattle.std.proofs.Math.Seq.{drop-cons, take-suc}
 use Rattle.std.proofs.lemmas.List.{map-append}
 use Rattle.std.proofs.lemmas.Option.{get_or_from_slice_get, slice_get_within}
@@ -9,7 +9,7 @@ use Rattle.gd_model.specs.declared.value.Value.{Value}
 use Rattle.gd_model.specs.Key.{same_key}
 use Rattle.gd_model.specs.Thing.{ArrayThing, DictThing, with_pair}
 use Rattle.gd_containers.specs.Keys.{key_value}
-use Rattle.gd_ops.specs.Answer.{and_then, exact}
+use Rattle.gd_ops.specs.Answer.{and_then}
 use Rattle.gd_ops.specs.Methods.{keys_array, values_array, first_key, put_all}
 
 -- the pairs up to and with that at place i
@@ -55,7 +55,8 @@ copy_more d all new i k kk v vv e few ea ep ek ev en =
     let put = ap (λ (n : DictThing). n.pairs) en in
     let pairs : new.pairs ≡ with_pair all.pairs k v = put ∙ (λ j. with_pair all.pairs (ek j) (ev j)) in
     let more : length (with_pair all.pairs k v) ≤ length all.pairs + 1 = pair_length all.pairs k v in
-    let same : length new.pairs ≡ length (with_pair all.pairs k v) = ap length pairs in
-    (omega arith,
-    en ∙ ap (λ (a : DictThing). record a { pairs = with_pair all.pairs kk vv }) ea ∙ ap (λ ps. record d { fixed = false; pairs = ps }) (sym put),
-    ap (λ ps. put_all ps (drop (i + 1) d.pairs)) pairs ∙ put_more d.pairs all.pairs i k v e ∙ ep)
+    let same : length new.pairs ≡ length (with_pair all.pairs k v) = ap length pairs in (
+      omega arith,
+      en ∙ ap (λ (a : DictThing). record a { pairs = with_pair all.pairs kk vv }) ea ∙ ap (λ ps. record d { fixed = false; pairs = ps }) (sym put),
+      ap (λ ps. put_all ps (drop (i + 1) d.pairs)) pairs ∙ put_more d.pairs all.pairs i k v e ∙ ep,
+    )

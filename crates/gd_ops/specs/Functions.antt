@@ -1,5 +1,5 @@
 -- What the functions give on their arguments. Another number of arguments is refused first, and then values of other kinds.
-use Rattle.std.specs.Prelude.{ℕ, suc, unsigned_abs, Bool, not, ◌&&◌, ◌||◌, ◌==◌, List, [], ◌∷◌, length, option_map, Option, None, Some, Result, Ok, Err, ℤ, pos, negsuc, int_lt, int_rem, if◌then◌else◌}
+use Rattle.std.specs.Prelude.{unsigned_abs, Bool, not, ◌&&◌, ◌||◌, List, [], ◌∷◌, length, option_map, Option, Some, Result, Ok, Err, ℤ, pos, int_lt, int_rem, if◌then◌else◌}
 use Rattle.std.specs.Ordering.{int_eq}
 use Rattle.std.specs.Int.{w64, cast_signed, int_min, int_max, int_signum, int_wrapping_add}
 use Rattle.slot_arena.specs.declared.handle.Handle.{Handle}

@@ -1,5 +1,5 @@
 -- What the operators give on ints.
-use Rattle.std.specs.Prelude.{ℕ, suc, ◌%◌, ℤ, pos, negsuc, Bool, not, ◌==◌, nat_le, List, Option, None, Some, Result, Ok, Err, if◌then◌else◌, int_lt, int_le, int_rem}
+use Rattle.std.specs.Prelude.{ℕ, suc, ◌%◌, ℤ, pos, negsuc, not, ◌==◌, nat_le, List, Option, None, Some, Result, Ok, Err, if◌then◌else◌, int_lt, int_le, int_rem}
 use Rattle.std.specs.Ordering.{int_eq}
 use Rattle.std.specs.Int.{w64, int_wrapping_add, int_wrapping_sub, int_wrapping_mul, int_wrapping_div, int_wrapping_neg, int_wrapping_pow, int_shl, int_shr, int_bit_and, int_bit_or, int_bit_xor}
 use Rattle.gd_syntax.specs.declared.operator.Operator.{Operator}

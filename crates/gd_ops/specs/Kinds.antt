@@ -1,5 +1,5 @@
 -- The kinds of operands, and for which kinds there is which operator.
-use Rattle.std.specs.Prelude.{◌≡◌, Bool, true, false, not, ◌&&◌, ◌||◌, Option, None, Some, if◌then◌else◌}
+use Rattle.std.specs.Prelude.{Bool, true, false, not, ◌&&◌, ◌||◌, Option, None, Some, if◌then◌else◌}
 use Rattle.gd_syntax.specs.declared.operator.Operator.{Operator}
 use Rattle.gd_syntax.specs.declared.operator.Operator.TheVariants.{Power, Multiply, Divide, Remainder, Add, Subtract, ShiftLeft, ShiftRight, BitAnd, BitXor, BitOr, Equal, NotEqual, Less, LessEqual, Greater, GreaterEqual, In, NotIn, Negate, Plus, Complement, Not}
 use Rattle.gd_model.specs.declared.ty.Ty.{Ty, ArrayOf', DictOf'}

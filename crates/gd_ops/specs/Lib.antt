@@ -1,4 +1,5 @@
 pub mod Answer
+pub mod Builtins
 pub mod Equality
 pub mod Functions
 pub mod Ints

@@ -1,5 +1,5 @@
 -- What the methods give that do not write. Another number of arguments is refused first, and then values of other kinds.
-use Rattle.std.specs.Prelude.{◌≡◌, ℕ, ◌+◌, Bool, true, false, not, ◌||◌, ◌==◌, nat_eq, nat_lt, nat_le, List, [], ◌∷◌, ◌++◌, length, map, fold, drop, slice_get, slice_range, is_some, unwrap_or, Option, None, Some, Result, Ok, Err, ℤ, pos, negsuc, if◌then◌else◌}
+use Rattle.std.specs.Prelude.{◌≡◌, ℕ, ◌+◌, Bool, true, false, ◌||◌, ◌==◌, nat_eq, nat_lt, nat_le, List, [], ◌∷◌, length, map, fold, drop, slice_get, slice_range, is_some, unwrap_or, Option, None, Some, Result, Ok, Err, ℤ, pos, negsuc, if◌then◌else◌}
 use Rattle.std.specs.List.{starts_with, ends_with}
 use Rattle.slot_arena.specs.declared.handle.Handle.{Handle}
 use Rattle.gd_model.specs.declared.fault.RunFault.{RunFault}

@@ -1,6 +1,6 @@
 -- The printed forms of values. `things` says which thing is behind a handle, and `names` has the names of the classes.
 -- There is no form where a thing or a name is not there.
-use Rattle.std.specs.Prelude.{◌≡◌, ⊤, ℕ, zero, suc, ◌<◌, Bool, ◌==◌, ◌||◌, codes, List, [], ◌∷◌, ◌++◌, length, map, Option, None, Some, option_and_then, option_map, IfSome, Result, Ok, Err, if◌then◌else◌}
+use Rattle.std.specs.Prelude.{◌≡◌, ⊤, ℕ, zero, suc, ◌<◌, ◌==◌, ◌||◌, codes, List, [], ◌∷◌, ◌++◌, length, map, Option, None, Some, option_and_then, IfSome, Result, Ok, Err, if◌then◌else◌}
 use Rattle.std.specs.Fmt.{decimal, signed_decimal}
 use Rattle.slot_arena.specs.declared.handle.Handle.{Handle}
 use Rattle.gd_model.specs.declared.fault.RunFault.TheVariants.{TooLong}

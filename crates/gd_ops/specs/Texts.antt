@@ -1,5 +1,5 @@
 -- What the operators give on two Strings.
-use Rattle.std.specs.Prelude.{◌≡◌, ⊤, ℕ, ◌<◌, nat_le, if◌then◌else◌, ℤ, pos, Bool, not, List, ◌++◌, is_some, is_none, Option, None, Some, Result, Ok, Err, IsSomeAnd}
+use Rattle.std.specs.Prelude.{◌≡◌, ⊤, ℕ, nat_le, if◌then◌else◌, pos, not, List, ◌++◌, is_some, is_none, Option, None, Some, Result, Ok, Err}
 use Rattle.std.specs.Cmp.Lexicographic.{slice_cmp}
 use Rattle.std.specs.Ordering.{nat_cmp, is_lt, is_gt}
 use Rattle.std.specs.Prelude.{length}
@@ -10,7 +10,6 @@ use Rattle.gd_syntax.specs.declared.text.TextFault.{TextFault}
 use Rattle.gd_syntax.specs.declared.text.TextFault.TheVariants as t
 use Rattle.gd_model.specs.declared.fault.RunFault.{RunFault}
 use Rattle.gd_model.specs.declared.fault.RunFault.TheVariants.{BadFormat, BadOperands, OutOfRange, TooLong}
-use Rattle.gd_model.specs.declared.value.Value.{Value}
 use Rattle.gd_model.specs.declared.value.Value.TheVariants.{Bool as BoolValue, Str}
 use Rattle.gd_containers.specs.declared.fault.ThingFault.{ThingFault}
 use Rattle.gd_containers.specs.declared.fault.ThingFault.TheVariants.{Run, NoMemory}

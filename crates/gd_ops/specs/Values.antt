@@ -1,11 +1,11 @@
 -- What the operators give on values. `things` says which thing is behind a handle.
-use Rattle.std.specs.Prelude.{◌≡◌, ⊤, ℕ, ◌+◌, ◌≤◌, Bool, true, false, not, ◌==◌, nat_le, List, [], ◌∷◌, ◌++◌, length, option_map, is_some, ◌⊎◌, ◌≢◌, Option, None, Some, Result, Ok, Err, if◌then◌else◌, pos}
+use Rattle.std.specs.Prelude.{◌≡◌, ⊤, ℕ, ◌+◌, ◌≤◌, Bool, true, false, not, ◌==◌, List, [], ◌∷◌, ◌++◌, length, option_map, is_some, ◌⊎◌, ◌≢◌, Option, None, Some, Result, Ok, Err, if◌then◌else◌, pos}
 use Rattle.std.specs.Ordering.{int_eq}
 use Rattle.slot_arena.specs.declared.handle.Handle.{Handle}
 use Rattle.gd_syntax.specs.declared.operator.Operator.{Operator}
 use Rattle.gd_syntax.specs.declared.operator.Operator.TheVariants.{Add, Remainder, Equal, NotEqual, In, NotIn, Negate, Plus, Complement, Not}
 use Rattle.gd_model.specs.declared.fault.RunFault.{RunFault}
-use Rattle.gd_model.specs.declared.fault.RunFault.TheVariants.{BadOperands, TooLong, BadKey, BadFormat}
+use Rattle.gd_model.specs.declared.fault.RunFault.TheVariants.{BadOperands, TooLong, BadKey}
 use Rattle.gd_model.specs.declared.ty.Ty.{Ty}
 use Rattle.gd_model.specs.declared.ty.Ty.TheVariants.{Variant}
 use Rattle.gd_model.specs.declared.value.Key.{Key}

@@ -161,12 +161,7 @@ fn call_find<K: Look>(a: &TypedArray, args: &[Value], look: &K) -> Result<Fresh,
     }
 }
 
-fn place_found<K: Look>(
-    a: &TypedArray,
-    v: &Value,
-    from: i64,
-    look: &K,
-) -> Result<Fresh, ThingFault>
+fn place_found<K: Look>(a: &TypedArray, v: &Value, from: i64, look: &K) -> Result<Fresh, ThingFault>
     ensures { result ≡ exact (spec.place_gives (K.things look.now) a.now (v.now, from)) }
 {
     match place_of(a, v, from, look) {

@@ -1,12 +1,13 @@
-//! The functions of the language.
-use crate::fresh::{Fresh, refused};
-use crate::functions::{call_on_ints, call_on_values, one_int};
+//! The builtins: the functions of the language, and the methods that do not write.
+ghost use Rattle.gd_ops.specs.Builtins as spec;
+
+use crate::fresh::Fresh;
+use crate::functions::{call_on_ints, call_on_values};
+use crate::makers::{call_char, call_range};
 use crate::methods::call_method;
 use crate::print::joined;
-use crate::texts::text;
-use gd_containers::{Look, MAX_ITEMS, ThingFault, TypedArray};
-use gd_model::{RunFault, Ty, Value};
-use gd_syntax::Text;
+use gd_containers::{Look, ThingFault};
+use gd_model::Value;
 use std::alloc::Global;
 
 /// A builtin function, or a method that does not write, in the order of the numbers.
@@ -104,13 +105,15 @@ pub fn call_builtin<K: Look>(
     builtin: Builtin,
     args: &[Value],
     look: &K,
-) -> Result<Fresh, ThingFault> {
+) -> Result<Fresh, ThingFault>
+    ensures { spec.Gives (K.things look.now) (K.names look.now) builtin args.now result }
+{
     match builtin {
         Builtin::Print | Builtin::Str => joined(alloc, args, &[], look),
         Builtin::Prints => joined(alloc, args, &[' '], look),
         Builtin::Printt => joined(alloc, args, &['\t'], look),
         Builtin::Range => call_range(alloc, args),
-        Builtin::Char => character(alloc, one_int(args)?),
+        Builtin::Char => call_char(alloc, args),
         Builtin::Len | Builtin::Typeof | Builtin::IsSame | Builtin::Int | Builtin::Bool => {
             call_on_values(builtin, args, look)
         }
@@ -126,49 +129,5 @@ pub fn call_builtin<K: Look>(
         | Builtin::Signi
         | Builtin::Posmod => call_on_ints(builtin, args),
         _ => call_method(alloc, builtin, args, look),
-    }
-}
-
-fn call_range(alloc: Global, args: &[Value]) -> Result<Fresh, ThingFault> {
-    match args {
-        [Value::Int(end)] => range(alloc, 0, *end, 1),
-        [Value::Int(first), Value::Int(end)] => range(alloc, *first, *end, 1),
-        [Value::Int(first), Value::Int(end), Value::Int(step)] => {
-            range(alloc, *first, *end, *step)
-        }
-        [_] | [_, _] | [_, _, _] => refused(RunFault::ValueOfAnotherType),
-        _ => refused(RunFault::WrongNumberOfArguments),
-    }
-}
-
-/// The ints from `first` on by `step` and before `end`. `ZeroDivisorOrStep` for step 0, `TooLong` for too many.
-fn range(alloc: Global, first: i64, end: i64, step: i64) -> Result<Fresh, ThingFault> {
-    if step == 0 {
-        return refused(RunFault::ZeroDivisorOrStep);
-    }
-    let mut all = TypedArray::new(alloc, Ty::Variant, false);
-    let mut next = Some(first);
-    for _turn in 0..MAX_ITEMS + 1 {
-        let Some(n) = next else { break };
-        if (step > 0 && n >= end) || (step < 0 && n <= end) {
-            break;
-        }
-        all.push(Value::Int(n), true)?;
-        next = n.checked_add(step);
-    }
-    Ok(Fresh::Array(all))
-}
-
-/// The String of the character with this code.
-fn character(alloc: Global, n: i64) -> Result<Fresh, ThingFault> {
-    if n < 0 || n > 0x10_FFFF {
-        return refused(RunFault::OutOfRange);
-    }
-    match char::from_u32(n as u32) {
-        Some(c) => match Vec::from_slice(alloc, &[c]) {
-            Ok(chars) => text(Text::of(chars)),
-            Err(_) => Err(ThingFault::NoMemory),
-        },
-        None => refused(RunFault::OutOfRange),
     }
 }

@@ -170,11 +170,7 @@ fn put(d: &mut OrderedDict, key: Key, value: Value) -> Result<(), ThingFault>
     Ok(())
 }
 
-fn call_find_key<K: Look>(
-    d: &OrderedDict,
-    args: &[Value],
-    look: &K,
-) -> Result<Fresh, ThingFault>
+fn call_find_key<K: Look>(d: &OrderedDict, args: &[Value], look: &K) -> Result<Fresh, ThingFault>
     ensures { Answers (and_then (spec.one_value args.now) (spec.find_key_gives (K.things look.now) d.now)) result }
 {
     match args {

@@ -9,6 +9,7 @@ mod fresh;
 mod functions;
 mod ints;
 mod kind;
+mod makers;
 mod methods;
 mod misfit;
 mod operators;

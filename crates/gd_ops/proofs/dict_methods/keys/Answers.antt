@@ -1,4 +1,3 @@
-use Rattle.std.proofs.Common.{◌≡◌}
 use Rattle.gd_ops.proofs.Pairs.{keys_more}
 use Rattle.gd_ops.proofs.dict_methods.keys.Goals as goal
 

@@ -1,4 +1,4 @@
-use Rattle.std.proofs.Common.{◌≡◌, ℕ, ◌+◌, ◌-◌, ◌<◌, Bool, true, false, List, length, Option, None, Some, Ok, Err, refl, ap, sym, ◌∙◌, arith}
+use Rattle.std.proofs.Common.{◌≡◌, ◌+◌, ◌-◌, length, None, Some, Ok, Err, refl, ap, sym, ◌∙◌, arith}
 use Rattle.std.proofs.lemmas.Result.{err_from_is_err_and}
 use Rattle.gd_ops.proofs.Equal.{arrays_too_deep, dicts_too_deep, arrays_open, dicts_open, no_left_array, no_right_array, no_left_dict, other_size_arrays, same_size_arrays, other_size_dicts, same_size_dicts, no_right_dict, items_yes, items_fault, pairs_yes, pairs_fault, pairs_no, pairs_lacking}
 use Rattle.gd_model.specs.Store.{array_behind, dict_behind}

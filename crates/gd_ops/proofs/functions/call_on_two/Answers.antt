@@ -1,4 +1,3 @@
-use Rattle.std.proofs.Common.{◌≡◌, ℤ}
 use Rattle.std.proofs.lemmas.Result.{err_from_is_err_and}
 use Rattle.gd_ops.specs.Functions.{two_ints, of_pair}
 use Rattle.gd_ops.proofs.Answer.{fault_and_then}

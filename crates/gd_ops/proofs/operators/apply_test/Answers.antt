@@ -1,5 +1,3 @@
-use Rattle.std.proofs.Common.{◌≡◌, sym, subst}
-use Rattle.gd_ops.specs.Answer.{Answers}
 use Rattle.gd_ops.specs.Values as spec
 use Rattle.gd_ops.proofs.Answer.{answers_exact}
 use Rattle.gd_ops.proofs.operators.apply_test.Goals as goal

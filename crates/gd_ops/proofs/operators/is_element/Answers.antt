@@ -1,4 +1,4 @@
-use Rattle.std.proofs.Common.{◌≡◌, Some, is_some, rules, ◌∙◌, ap, sym}
+use Rattle.std.proofs.Common.{is_some, ◌∙◌, ap}
 use Rattle.gd_ops.specs.Answer.{exact}
 use Rattle.gd_ops.specs.Equality.{same}
 use Rattle.gd_ops.specs.Values as spec

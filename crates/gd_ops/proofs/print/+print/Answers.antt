@@ -1,9 +1,9 @@
-use Rattle.std.proofs.Common.{◌≡◌, ◌+◌, ◌-◌, Some, None, Err, List, ℕ, Option, codes, length, map, take, drop, sym, ap, refl, ◌∙◌, arith}
+use Rattle.std.proofs.Common.{◌≡◌, ◌+◌, ◌-◌, Some, Err, codes, length, map, take, drop, sym, ap, refl, ◌∙◌, arith}
 use Rattle.std.proofs.lemmas.Option.{slice_get_read}
 use Rattle.std.proofs.lemmas.Result.{err_from_is_err_and}
 use Rattle.gd_model.specs.Store.{array_behind, dict_behind}
 use Rattle.gd_containers.specs.Keys.{key_value}
-use Rattle.gd_ops.specs.Printed.{Puts, both, more_forms, all_forms, form_by, pair_form, plain_form, inside}
+use Rattle.gd_ops.specs.Printed.{both, more_forms, all_forms, form_by, pair_form, plain_form, inside}
 use Rattle.gd_ops.proofs.Printed.{both_then, puts_then, puts_stop, puts_moved, puts_as, more_next, more_no_comma, more_no_form, all_at, all_none, array_open, array_too_deep, dict_open, dict_empty, dict_too_deep}
 use Rattle.gd_ops.proofs.print.+print.Goals as goal
 

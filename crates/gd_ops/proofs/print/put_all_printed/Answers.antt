@@ -1,4 +1,4 @@
-use Rattle.std.proofs.Common.{◌≡◌, ◌-◌, length, map, take, drop, refl, arith}
+use Rattle.std.proofs.Common.{◌-◌, length, map, take, drop, refl, arith}
 use Rattle.std.proofs.lemmas.Option.{slice_get_read}
 use Rattle.std.proofs.lemmas.Result.{err_from_is_err_and}
 use Rattle.gd_ops.specs.Printed.{more_forms, all_forms, printed}

@@ -1,4 +1,4 @@
-use Rattle.std.proofs.Common.{◌≡◌, Some, List, ℕ, subst, ap, ◌∙◌, w64}
+use Rattle.std.proofs.Common.{Some, List, ℕ, subst, ap, ◌∙◌, w64}
 use Rattle.std.specs.Fmt.{signed_decimal}
 use Rattle.std.proofs.lemmas.Int.{to_z-of_z}
 use Rattle.gd_ops.specs.Printed.{Puts}

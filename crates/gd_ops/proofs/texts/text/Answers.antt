@@ -1,7 +1,7 @@
-use Rattle.std.proofs.Common.{◌≡◌, Err, Ok, sym, subst}
+use Rattle.std.proofs.Common.{Err, sym, subst}
 use Rattle.gd_text.specs.Text.{Gives}
 use Rattle.gd_ops.specs.Answer.{Answers}
-use Rattle.gd_ops.specs.Texts.{text_meant, text_fault}
+use Rattle.gd_ops.specs.Texts.{text_meant}
 use Rattle.gd_ops.proofs.TextAnswers.{text_made, text_not_made}
 use Rattle.gd_ops.proofs.texts.text.Goals as goal
 
