@@ -3,3 +3,4 @@ pub mod Answer
 pub mod Printed
 pub mod TextAnswers
 pub mod Pairs
+pub mod Operands
