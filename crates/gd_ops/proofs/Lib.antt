@@ -4,3 +4,4 @@ pub mod Printed
 pub mod TextAnswers
 pub mod Pairs
 pub mod Operands
+pub mod KnownTypes

@@ -25,7 +25,7 @@ pub use builtin::{Builtin, call_builtin};
 pub use equality::{is_same, same};
 pub use fresh::Fresh;
 pub use kind::{Kind, kind_of, kind_of_type};
-pub use laws::no_bad_operands;
+pub use laws::{known_types_have_no_bad_operands, no_bad_operands};
 pub use operators::{apply, truth};
 pub use print::text_of;
 pub use rows::{Given, is_unary, result_type, takes};
