@@ -1,8 +1,8 @@
 -- Operands whose types are known are of kinds for which there is the operator.
-use Rattle.std.proofs.Common.{◌≡◌, Bool, true, false, ◌&&◌, ◌||◌, not, ◌⊎◌, inl, inr, Option, None, Some, Result, Err, refl, ap, sym, subst, ◌∙◌, if◌then◌else◌}
+use Rattle.std.proofs.Common.{◌≡◌, Bool, true, false, ◌&&◌, ◌||◌, not, ◌⊎◌, inl, inr, Option, None, Some, Result, Err, refl, ap, sym, ◌∙◌, if◌then◌else◌}
 use Rattle.slot_arena.specs.declared.handle.Handle.{Handle}
 use Rattle.gd_syntax.specs.declared.operator.Operator.{Operator}
-use Rattle.gd_syntax.specs.declared.operator.Operator.TheVariants.{Power, Multiply, Divide, Remainder, Add, Subtract, ShiftLeft, ShiftRight, BitAnd, BitXor, BitOr, Equal, NotEqual, Less, LessEqual, Greater, GreaterEqual, In, NotIn, Negate, Plus, Complement, Not}
+use Rattle.gd_syntax.specs.declared.operator.Operator.TheVariants.{Remainder, Add, Equal, NotEqual, Less, LessEqual, Greater, GreaterEqual, In, NotIn, Negate, Plus, Complement, Not}
 use Rattle.gd_model.specs.declared.fault.RunFault.TheVariants.{BadOperands}
 use Rattle.gd_model.specs.declared.ty.Ty.{Ty}
 use Rattle.gd_model.specs.declared.value.Value.{Value}

@@ -1,29 +1,29 @@
 -- An operator that there is for the kinds of its operands has no bad operands.
-use Rattle.std.proofs.Common.{◌≡◌, ◌≢◌, ℕ, zero, suc, Bool, true, false, ◌&&◌, ◌||◌, List, [], ◌∷◌, length, nat_le, nat_eq, ◌==◌, ◌%◌, ◌+◌, ◌++◌, not, option_map, is_some, Option, None, Some, Result, Ok, Err, refl, ap, sym, subst, ◌∙◌, ℤ, pos, negsuc, int_rem, if◌then◌else◌}
+use Rattle.std.proofs.Common.{◌≡◌, ℕ, zero, suc, Bool, true, false, ◌||◌, List, [], ◌∷◌, length, nat_le, nat_eq, ◌==◌, ◌%◌, ◌+◌, ◌++◌, not, option_map, is_some, Option, None, Some, Result, Ok, Err, refl, ap, sym, subst, ◌∙◌, ℤ, pos, negsuc, int_rem, if◌then◌else◌}
 use Rattle.std.specs.Ordering.{int_eq}
 use Rattle.std.specs.Int.{w64, int_wrapping_div}
 use Rattle.slot_arena.specs.declared.handle.Handle.{Handle}
 use Rattle.gd_syntax.specs.declared.operator.Operator.{Operator}
-use Rattle.gd_syntax.specs.declared.operator.Operator.TheVariants.{Power, Multiply, Divide, Remainder, Add, Subtract, ShiftLeft, ShiftRight, BitAnd, BitXor, BitOr, Equal, NotEqual, Less, LessEqual, Greater, GreaterEqual, In, NotIn, Negate, Plus, Complement, Not}
+use Rattle.gd_syntax.specs.declared.operator.Operator.TheVariants.{Power, Divide, Remainder, Add, ShiftLeft, ShiftRight, Equal, NotEqual, Less, LessEqual, Greater, GreaterEqual, In, NotIn, Negate, Plus, Complement, Not}
 use Rattle.gd_model.specs.declared.fault.RunFault.{RunFault}
-use Rattle.gd_model.specs.declared.fault.RunFault.TheVariants.{BadOperands, ZeroDivisorOrStep, BadShift, TooLong, TooDeepToCompare, BadKey}
+use Rattle.gd_model.specs.declared.fault.RunFault.TheVariants.{BadOperands, ZeroDivisorOrStep, TooLong}
 use Rattle.gd_model.specs.declared.value.Key.{Key}
 use Rattle.gd_model.specs.declared.value.Value.{Value}
 use Rattle.gd_model.specs.declared.value.Value.TheVariants as v
 use Rattle.gd_model.specs.Store.{Thing, array_behind, dict_behind}
 use Rattle.gd_model.specs.Thing.{ArrayThing, DictThing, value_at}
 use Rattle.gd_containers.specs.declared.fault.ThingFault.{ThingFault}
-use Rattle.gd_containers.specs.declared.fault.ThingFault.TheVariants.{Run, NoMemory}
+use Rattle.gd_containers.specs.declared.fault.ThingFault.TheVariants.{Run}
 use Rattle.gd_ops.specs.declared.fresh.Fresh.{Fresh}
 use Rattle.gd_ops.specs.declared.fresh.Fresh.TheVariants.{Value as Made}
 use Rattle.gd_ops.specs.Answer.{and_then, in_form, Answers}
 use Rattle.gd_ops.specs.Equality.{and_also, same_items, same_at, same_pairs, same_arrays, same_dicts, arrays_by, dicts_by, same_by, inside, same}
-use Rattle.gd_ops.specs.Ints.{answer, ints_give, int_gives, power, quotient, rest, shifted_left, shifted_right}
+use Rattle.gd_ops.specs.Ints.{answer, ints_give, power, shifted_left, shifted_right}
 use Rattle.gd_ops.specs.Kinds as kinds
 use Rattle.gd_ops.specs.Kinds.{kind_of, takes, is_unary, alike}
 use Rattle.gd_ops.specs.declared.kind.Kind.TheVariants as k
 use Rattle.gd_ops.specs.Texts.{TextsGive, FormatGives, text_meant}
-use Rattle.gd_ops.specs.Values.{Applies, OthersGive, SumGives, RestGives, Joins, tests_give, equal, truth, is_inside, is_element, has_key, as_key, first_place, one_int, bool_made}
+use Rattle.gd_ops.specs.Values.{Applies, OthersGive, SumGives, RestGives, Joins, equal, truth, is_inside, is_element, has_key, as_key, first_place, one_int, bool_made}
 
 -- a meaning that does not refuse its operands
 abbrev Fine : {A : Type 0} → Option (Result A RunFault) → Type 0
