@@ -5,3 +5,4 @@ pub mod TextAnswers
 pub mod Pairs
 pub mod Operands
 pub mod KnownTypes
+pub mod Ranges
