@@ -4,3 +4,6 @@ pub mod Printed
 pub mod Standing
 pub mod TextAnswers
 pub mod Pairs
+pub mod Operands
+pub mod KnownTypes
+pub mod Ranges

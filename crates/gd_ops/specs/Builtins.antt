@@ -1,5 +1,6 @@
 -- What the builtins give on their arguments.
-use Rattle.std.specs.Prelude.{◌≡◌, ⊤, ℕ, nat_lt, nat_le, Bool, true, false, ◌&&◌, ◌||◌, codes, List, [], ◌∷◌, option_map, Option, None, Some, Result, Ok, Err, ℤ, pos, negsuc, if◌then◌else◌}
+use Rattle.std.specs.Prelude.{◌≡◌, ⊤, ℕ, zero, suc, ◌<◌, nat_lt, nat_le, Bool, true, false, ◌&&◌, ◌||◌, codes, List, [], ◌∷◌, option_map, Option, None, Some, Result, Ok, Err, ℤ, pos, negsuc, ◌+ℤ◌, int_lt, if◌then◌else◌}
+use Rattle.gd_model.specs.Thing.{ArrayThing}
 use Rattle.std.specs.Ordering.{int_eq}
 use Rattle.slot_arena.specs.declared.handle.Handle.{Handle}
 use Rattle.gd_model.specs.declared.fault.RunFault.{RunFault}
@@ -28,17 +29,34 @@ char_of (negsuc k) = None
 abbrev pub char_call : ℤ → Option (Result Fresh RunFault)
 char_call n = text_meant (option_map (λ c. c ∷ []) (char_of n))
 
--- an array, or too many ints; which ones is not said yet
-abbrev pub IsRange : Result Fresh ThingFault → Type 0
-IsRange (Ok (MadeArray a)) = a.element ≡ ty.Variant
-IsRange (Err (Run TooLong)) = ⊤
-IsRange (Err NoMemory) = ⊤
-IsRange r = ⊥
+-- whether n comes before the end of a range, whose ints go on by `step`
+abbrev pub comes_before : ℤ → ℤ → ℤ → Bool
+comes_before step end n = (int_lt (pos 0) step && int_lt n end) || (int_lt step (pos 0) && int_lt end n)
 
--- step 0 is refused
-abbrev pub RangeGives : Bool → Result Fresh ThingFault → Type 0
-RangeGives true r = r ≡ Err (Run ZeroDivisorOrStep)
-RangeGives false r = IsRange r
+-- the first k ints from n on by `step`, and the one behind them
+abbrev pub ints_from : ℤ → ℤ → ℕ → List Value
+ints_from n step zero = []
+ints_from n step (suc k) = v.Int n ∷ ints_from (n +ℤ step) step k
+
+abbrev pub int_after : ℤ → ℤ → ℕ → ℤ
+int_after n step zero = n
+int_after n step (suc k) = int_after (n +ℤ step) step k
+
+-- the first k ints come before the end
+abbrev pub GoOn : ℤ → ℤ → ℤ → ℕ → Type 0
+GoOn n step end zero = ⊤
+GoOn n step end (suc k) = (comes_before step end n ≡ true) × GoOn (n +ℤ step) step end k
+
+abbrev pub range_array : ℤ → ℤ → ℕ → ArrayThing
+range_array n step k = record { element = ty.Variant; fixed = false; items = ints_from n step k }
+
+-- the ints from `first` on by `step` that come before the end, as far as one does not; too long only where too many do
+abbrev pub RangeGives : ℤ → ℤ → ℤ → Result Fresh ThingFault → Type 0
+RangeGives first end step (Ok (MadeArray a)) = (int_eq step (pos 0) ≡ false) × ((k : ℕ) × GoOn first step end k × (comes_before step end (int_after first step k) ≡ false) × (a ≡ range_array first step k))
+RangeGives first end step (Err (Run ZeroDivisorOrStep)) = step ≡ pos 0
+RangeGives first end step (Err (Run TooLong)) = (k : ℕ) × (16777216 < k) × GoOn first step end k
+RangeGives first end step (Err NoMemory) = ⊤
+RangeGives first end step r = ⊥
 
 -- the first int, the end and the step
 abbrev pub range_args : List Value → Option (Result (ℤ × ℤ × ℤ) RunFault)
@@ -50,7 +68,7 @@ range_args args = misfit 1 3 args
 abbrev pub RangeCallGives : Option (Result (ℤ × ℤ × ℤ) RunFault) → Result Fresh ThingFault → Type 0
 RangeCallGives None r = ⊥
 RangeCallGives (Some (Err f)) r = r ≡ Err (Run f)
-RangeCallGives (Some (Ok p)) r = RangeGives (int_eq p.2 (pos 0)) r
+RangeCallGives (Some (Ok p)) r = RangeGives p.0 p.1 p.2 r
 
 -- what a builtin gives, the receiver of a method being the first argument
 abbrev pub Gives : (Handle → Option Thing) → (ℕ → Option (List ℕ)) → Builtin → List Value → Result Fresh ThingFault → Type 0

@@ -154,7 +154,27 @@ abbrev pub by_kinds : Operator → Option Kind → Option Kind → Bool → Opti
 by_kinds op (Some a) (Some b) same = if takes op a b then Some (if is_test op then g.Bool else type_by_left a same) else None
 by_kinds op a b same = Some (if is_test op then g.Bool else g.Variant)
 
+-- the kind of the right operand, null standing there for one that takes one operand
+abbrev pub right_kind : Operator → Ty → Option Kind
+right_kind op b = if is_unary op then Some k.Nil else kind_of_type b
+
 abbrev pub result_type : Operator → Ty → Ty → Bool → Option Given
 result_type op a b same =
     if is_no_value a || (not (is_unary op) && is_no_value b) then None
-    else by_kinds op (kind_of_type a) (if is_unary op then Some k.Nil else kind_of_type b) same
+    else by_kinds op (kind_of_type a) (right_kind op b) same
+
+-- the values of a type of this kind are of that kind: of the same one, or null besides objects, Callables and Signals
+abbrev pub fits_kind : Kind → Kind → Bool
+fits_kind k.Object k.Nil = true
+fits_kind k.Callable k.Nil = true
+fits_kind k.Signal k.Nil = true
+fits_kind k.Nil k.Nil = true
+fits_kind k.Bool k.Bool = true
+fits_kind k.Int k.Int = true
+fits_kind k.Str k.Str = true
+fits_kind k.Object k.Object = true
+fits_kind k.Array k.Array = true
+fits_kind k.Dict k.Dict = true
+fits_kind k.Callable k.Callable = true
+fits_kind k.Signal k.Signal = true
+fits_kind a b = false

@@ -1,6 +1,5 @@
 //! `char` and `range`, which make a String and an array of ints.
-ghost use Rattle.std.specs.Prelude.{◌≡◌, ◌∷◌, [], pos};
-ghost use Rattle.std.specs.Ordering.{int_eq};
+ghost use Rattle.std.specs.Prelude.{◌≡◌, ◌∷◌, []};
 ghost use Rattle.gd_ops.specs.Answer.{Answers, and_then};
 ghost use Rattle.gd_ops.specs.Builtins as spec;
 ghost use Rattle.gd_ops.specs.Functions.{one_int};
@@ -74,7 +73,7 @@ pub fn call_range(alloc: Global, args: &[Value]) -> Result<Fresh, ThingFault>
 
 /// The ints from `first` on by `step` and before `end`.
 fn range(alloc: Global, first: i64, end: i64, step: i64) -> Result<Fresh, ThingFault>
-    ensures { spec.RangeGives (int_eq step (pos 0)) result }
+    ensures { spec.RangeGives first end step result }
 {
     if step == 0 {
         return refused(RunFault::ZeroDivisorOrStep);
@@ -98,6 +97,8 @@ fn range(alloc: Global, first: i64, end: i64, step: i64) -> Result<Fresh, ThingF
 }
 
 /// Whether the int comes before the end of a range that goes on by `step`.
-fn comes_before(step: i64, end: i64, n: i64) -> bool {
+fn comes_before(step: i64, end: i64, n: i64) -> bool
+    ensures { result ≡ spec.comes_before step end n }
+{
     (step > 0 && n < end) || (step < 0 && n > end)
 }

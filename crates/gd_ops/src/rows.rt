@@ -1,5 +1,5 @@
 //! For which kinds of operands there is each operator, and what type it gives (docs/runtime.md, "Operators").
-ghost use Rattle.std.specs.Prelude.{◌≡◌, ◌↔◌, Bool, IsTrue, if◌then◌else◌};
+ghost use Rattle.std.specs.Prelude.{◌≡◌, ◌↔◌, Bool, IsTrue};
 ghost use Rattle.gd_ops.specs.Kinds as spec;
 
 use crate::kind::{Kind, kind_of_type};
@@ -171,7 +171,7 @@ fn is_no_value(t: &Ty) -> bool
 }
 
 fn right_kind(op: Operator, b: &Ty) -> Option<Kind>
-    ensures { result ≡ (if spec.is_unary op then Some Kind.Nil else spec.kind_of_type b.now) }
+    ensures { result ≡ spec.right_kind op b.now }
 {
     if is_unary(op) {
         Some(Kind::Nil)

@@ -1,7 +1,7 @@
-use Rattle.std.proofs.Common.{◌≡◌, ◌≤◌, false, length}
-use Rattle.gd_model.specs.declared.ty.Ty.TheVariants.{Variant}
+use Rattle.std.proofs.Common.{◌≡◌}
+use Rattle.gd_ops.specs.Builtins.{GoOn, int_after, range_array}
 use Rattle.gd_ops.proofs.makers.range.Given as goal
 
--- one int for each turn at most
+-- the ints so far, which came before the end, and the one behind them
 abbrev pub invariant-loop-turn : goal.invariant-loop-turn
-invariant-loop-turn l = (length l.all.items ≤ l._turn) × (l.all.fixed ≡ false) × (l.all.element ≡ Variant)
+invariant-loop-turn l = (l.all ≡ range_array l.first l.step l._turn) × (l.next ≡ int_after l.first l.step l._turn) × GoOn l.first l.step l.end l._turn

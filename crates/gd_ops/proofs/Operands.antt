@@ -1,0 +1,247 @@
+-- An operator that there is for the kinds of its operands has no bad operands.
+use Rattle.std.proofs.Common.{◌≡◌, ℕ, zero, suc, Bool, true, false, ◌||◌, List, [], ◌∷◌, length, nat_le, nat_eq, ◌==◌, ◌%◌, ◌+◌, ◌++◌, not, option_map, is_some, Option, None, Some, Result, Ok, Err, refl, ap, sym, subst, ◌∙◌, ℤ, pos, negsuc, int_rem, if◌then◌else◌}
+use Rattle.std.specs.Ordering.{int_eq}
+use Rattle.std.specs.Int.{w64, int_wrapping_div}
+use Rattle.slot_arena.specs.declared.handle.Handle.{Handle}
+use Rattle.gd_syntax.specs.declared.operator.Operator.{Operator}
+use Rattle.gd_syntax.specs.declared.operator.Operator.TheVariants.{Power, Divide, Remainder, Add, ShiftLeft, ShiftRight, Equal, NotEqual, Less, LessEqual, Greater, GreaterEqual, In, NotIn, Negate, Plus, Complement, Not}
+use Rattle.gd_model.specs.declared.fault.RunFault.{RunFault}
+use Rattle.gd_model.specs.declared.fault.RunFault.TheVariants.{BadOperands, ZeroDivisorOrStep, TooLong}
+use Rattle.gd_model.specs.declared.value.Key.{Key}
+use Rattle.gd_model.specs.declared.value.Value.{Value}
+use Rattle.gd_model.specs.declared.value.Value.TheVariants as v
+use Rattle.gd_model.specs.Store.{Thing, array_behind, dict_behind}
+use Rattle.gd_model.specs.Thing.{ArrayThing, DictThing, value_at}
+use Rattle.gd_containers.specs.declared.fault.ThingFault.{ThingFault}
+use Rattle.gd_containers.specs.declared.fault.ThingFault.TheVariants.{Run}
+use Rattle.gd_ops.specs.declared.fresh.Fresh.{Fresh}
+use Rattle.gd_ops.specs.declared.fresh.Fresh.TheVariants.{Value as Made}
+use Rattle.gd_ops.specs.Answer.{and_then, in_form, Answers}
+use Rattle.gd_ops.specs.Equality.{and_also, same_items, same_at, same_pairs, same_arrays, same_dicts, arrays_by, dicts_by, same_by, inside, same}
+use Rattle.gd_ops.specs.Ints.{answer, ints_give, power, shifted_left, shifted_right}
+use Rattle.gd_ops.specs.Kinds as kinds
+use Rattle.gd_ops.specs.Kinds.{kind_of, takes, is_unary, alike}
+use Rattle.gd_ops.specs.declared.kind.Kind.TheVariants as k
+use Rattle.gd_text.specs.declared.formatting.Arg.TheVariants as arg
+use Rattle.gd_ops.specs.Formatted.{arguments, FormatGives}
+use Rattle.gd_ops.specs.Texts.{TextsGive, text_meant}
+use Rattle.gd_ops.specs.Values.{Applies, OthersGive, SumGives, RestGives, Joins, equal, truth, is_inside, is_element, has_key, as_key, first_place, one_int, bool_made}
+
+-- a meaning that does not refuse its operands
+abbrev Fine : {A : Type 0} → Option (Result A RunFault) → Type 0
+Fine m = m ≡ Some (Err BadOperands) → ⊥
+
+fine_form : {A B : Type 0} → (form : A → B) (m : Option (Result A RunFault)) → Fine m → Fine (in_form form m)
+fine_form form None f e = cc
+fine_form form (Some (Err g)) f e = let same : g ≡ BadOperands = cc in f (ap (λ x. Some (Err x)) same)
+fine_form form (Some (Ok x)) f e = cc
+
+fine_then : {A B : Type 0} → (more : A → Option (Result B RunFault)) (m : Option (Result A RunFault)) → Fine m → ((x : A) → Fine (more x)) → Fine (and_then m more)
+fine_then more None f g e = cc
+fine_then more (Some (Err h)) f g e = let same : h ≡ BadOperands = cc in f (ap (λ x. Some (Err x)) same)
+fine_then more (Some (Ok x)) f g e = g x e
+
+fine_if : {A : Type 0} → (b : Bool) (m n : Option (Result A RunFault)) → Fine m → Fine n → Fine (if b then m else n)
+fine_if true m n f g = f
+fine_if false m n f g = g
+
+fine_ok : {A : Type 0} → (x : A) → Fine (Some (Ok x))
+fine_ok x e = cc
+
+fine_also : (m n : Option (Result Bool RunFault)) → Fine m → Fine n → Fine (and_also m n)
+fine_also m n f g = fine_then (λ yes. if yes then n else Some (Ok false)) m f (λ yes. fine_if yes n (Some (Ok false)) g (fine_ok false))
+
+fine_items : (eq : Value → Value → Option (Result Bool RunFault)) → ((x y : Value) → Fine (eq x y)) → (xs ys : List Value) → Fine (same_items eq xs ys)
+fine_items eq f [] ys = fine_ok true
+fine_items eq f (x ∷ xs) [] = fine_ok true
+fine_items eq f (x ∷ xs) (y ∷ ys) = fine_also (eq x y) (same_items eq xs ys) (f x y) (fine_items eq f xs ys)
+
+fine_at : (eq : Value → Value → Option (Result Bool RunFault)) → ((x y : Value) → Fine (eq x y)) → (x : Value) (o : Option Value) → Fine (same_at eq x o)
+fine_at eq f x None = fine_ok false
+fine_at eq f x (Some w) = f x w
+
+fine_pairs : (eq : Value → Value → Option (Result Bool RunFault)) → ((x y : Value) → Fine (eq x y)) → (ps others : List (Key × Value)) → Fine (same_pairs eq ps others)
+fine_pairs eq f [] others = fine_ok true
+fine_pairs eq f (p ∷ ps) others = fine_also (same_at eq p.1 (value_at others p.0)) (same_pairs eq ps others) (fine_at eq f p.1 (value_at others p.0)) (fine_pairs eq f ps others)
+
+fine_arrays : (eq : Value → Value → Option (Result Bool RunFault)) → ((x y : Value) → Fine (eq x y)) → (a b : Option ArrayThing) → Fine (same_arrays eq a b)
+fine_arrays eq f None b e = cc
+fine_arrays eq f (Some x) None e = cc
+fine_arrays eq f (Some x) (Some y) e = fine_if (length x.items == length y.items) (same_items eq x.items y.items) (Some (Ok false)) (fine_items eq f x.items y.items) (fine_ok false) e
+
+fine_dicts : (eq : Value → Value → Option (Result Bool RunFault)) → ((x y : Value) → Fine (eq x y)) → (a b : Option DictThing) → Fine (same_dicts eq a b)
+fine_dicts eq f None b e = cc
+fine_dicts eq f (Some x) None e = cc
+fine_dicts eq f (Some x) (Some y) e = fine_if (length x.pairs == length y.pairs) (same_pairs eq x.pairs y.pairs) (Some (Ok false)) (fine_pairs eq f x.pairs y.pairs) (fine_ok false) e
+
+-- how what lies inside is compared is fine, where it is compared
+abbrev FineInside : Option (Value → Value → Option (Result Bool RunFault)) → Type 0
+FineInside i = (f : Value → Value → Option (Result Bool RunFault)) → i ≡ Some f → (x y : Value) → Fine (f x y)
+
+fine_arrays_by : (things : Handle → Option Thing) (i : Option (Value → Value → Option (Result Bool RunFault))) → FineInside i → (h j : Handle) → Fine (arrays_by things i h j)
+fine_arrays_by things None f h j e = cc
+fine_arrays_by things (Some eq) f h j e = fine_arrays eq (f eq refl) (array_behind (things h)) (array_behind (things j)) e
+
+fine_dicts_by : (things : Handle → Option Thing) (i : Option (Value → Value → Option (Result Bool RunFault))) → FineInside i → (h j : Handle) → Fine (dicts_by things i h j)
+fine_dicts_by things None f h j e = cc
+fine_dicts_by things (Some eq) f h j e = fine_dicts eq (f eq refl) (dict_behind (things h)) (dict_behind (things j)) e
+
+fine_by : (things : Handle → Option Thing) (i : Option (Value → Value → Option (Result Bool RunFault))) → FineInside i → (a b : Value) → Fine (same_by things i a b)
+fine_by things i f (v.Array h) (v.Array j) e = fine_if (nat_eq h.serial j.serial) (Some (Ok true)) (arrays_by things i h j) (fine_ok true) (fine_arrays_by things i f h j) e
+fine_by things i f (v.Dict h) (v.Dict j) e = fine_if (nat_eq h.serial j.serial) (Some (Ok true)) (dicts_by things i h j) (fine_ok true) (fine_dicts_by things i f h j) e
+fine_by things i f _ _ e = cc
+
+fine_inside : (things : Handle → Option Thing) (room : ℕ) → FineInside (inside things room)
+unfolding inside
+fine_inside things zero f e x y = λ b. cc
+fine_inside things (suc room) f e x y =
+    let same : same_by things (inside things room) ≡ f = cc in
+    subst (λ (eq : Value → Value → Option (Result Bool RunFault)). Fine (eq x y)) same (fine_by things (inside things room) (fine_inside things room) x y)
+
+fine_same : (things : Handle → Option Thing) (a b : Value) → Fine (same things a b)
+fine_same things a b = fine_by things (inside things 64) (fine_inside things 64) a b
+
+fine_equal : (things : Handle → Option Thing) (a b : Value) → alike (kind_of a) (kind_of b) ≡ true → Fine (equal things a b)
+fine_equal things a b t e = fine_same things a b (ap (λ yes. if yes then same things a b else Some (Err BadOperands)) (sym t) ∙ e)
+
+fine_place : (test : Value → Option (Result Bool RunFault)) → ((x : Value) → Fine (test x)) → (place : ℕ) (xs : List Value) → Fine (first_place test place xs)
+fine_place test f place [] = fine_ok None
+fine_place test f place (x ∷ xs) =
+    fine_then (λ yes. if yes then Some (Ok (Some place)) else first_place test (place + 1) xs) (test x) (f x)
+    (λ yes. fine_if yes (Some (Ok (Some place))) (first_place test (place + 1) xs) (fine_ok (Some place)) (fine_place test f (place + 1) xs))
+
+fine_element : (things : Handle → Option Thing) (x : Value) (a : Option ArrayThing) → Fine (is_element things x a)
+fine_element things x None e = cc
+fine_element things x (Some a) e = fine_form is_some (first_place (λ y. same things y x) 0 a.items) (fine_place (λ y. same things y x) (λ y. fine_same things y x) 0 a.items) e
+
+fine_key : (k : Option Key) (d : Option DictThing) → Fine (has_key k d)
+fine_key None d e = cc
+fine_key (Some k) None e = cc
+fine_key (Some k) (Some d) e = cc
+
+fine_in : (things : Handle → Option Thing) (a b : Value) → kinds.texts (kind_of a) (kind_of b) ≡ false → kinds.inside (kind_of a) (kind_of b) ≡ true → Fine (is_inside things a b)
+fine_in things (v.Str x) (v.Str y) n t e = cc
+fine_in things a (v.Array h) n t e = fine_element things a (array_behind (things h)) e
+fine_in things a (v.Dict h) n t e = fine_key (as_key a) (dict_behind (things h)) e
+fine_in things _ _ n t e = cc
+
+fine_test : {X : Type 0} → (test : X → Bool) (o : Option X) → Fine (option_map (λ x. let r : Result Bool RunFault = Ok (test x) in r) o)
+fine_test test None e = cc
+fine_test test (Some x) e = cc
+
+fine_truth : (things : Handle → Option Thing) (a : Value) → Fine (truth things a)
+fine_truth things (v.Array h) e = fine_test (λ (a : ArrayThing). not (length a.items == 0)) (array_behind (things h)) e
+fine_truth things (v.Dict h) e = fine_test (λ (d : DictThing). not (length d.pairs == 0)) (dict_behind (things h)) e
+fine_truth things _ e = cc
+
+right_of_or : (p q : Bool) → p ≡ false → p || q ≡ true → q ≡ true
+right_of_or true q f t = cc
+right_of_or false q f t = t
+
+-- the answer would be a refusal that is meant
+refused : {A : Type 0} → (m : Option (Result A RunFault)) (r : Result A ThingFault) → Answers m r → r ≡ Err (Run BadOperands) → m ≡ Some (Err BadOperands)
+refused {A} m r h e = subst (λ (s : Result A ThingFault). Answers m s) e h
+
+abbrev FineInt : Result Value RunFault → Type 0
+FineInt m = answer m ≡ Err (Run BadOperands) → ⊥
+
+if_int : (b : Bool) (m n : Result Value RunFault) → FineInt m → FineInt n → FineInt (if b then m else n)
+if_int true m n f g = f
+if_int false m n f g = g
+
+ok_int : (x : Value) → FineInt (Ok x)
+ok_int x e = cc
+
+zero_int : FineInt (Err ZeroDivisorOrStep)
+zero_int e = cc
+
+fine_power : (x y : ℤ) → FineInt (power x y)
+fine_power x (pos k) e = cc
+fine_power x (negsuc k) e =
+    let inner : Result Value RunFault = if int_eq x (negsuc 0) then Ok (v.Int (if suc k % 2 == 0 then pos 1 else negsuc 0)) else Ok (v.Int (pos 0)) in
+    let outer : Result Value RunFault = if int_eq x (pos 1) then Ok (v.Int (pos 1)) else inner in
+    if_int (int_eq x (pos 0)) (Err ZeroDivisorOrStep) outer zero_int
+    (if_int (int_eq x (pos 1)) (Ok (v.Int (pos 1))) inner (ok_int (v.Int (pos 1)))
+    (if_int (int_eq x (negsuc 0)) (Ok (v.Int (if suc k % 2 == 0 then pos 1 else negsuc 0))) (Ok (v.Int (pos 0))) (ok_int (v.Int (if suc k % 2 == 0 then pos 1 else negsuc 0))) (ok_int (v.Int (pos 0))))) e
+
+fine_left : (x y : ℤ) → FineInt (shifted_left x y)
+fine_left x (pos k) e = cc
+fine_left x (negsuc k) e = cc
+
+fine_right : (x y : ℤ) → FineInt (shifted_right x y)
+fine_right x (pos k) e = cc
+fine_right x (negsuc k) e = cc
+
+fine_ints : (op : Operator) (x y : ℤ) → takes op k.Int k.Int ≡ true → (is_unary op ≡ true → v.Int y ≡ v.Nil) → FineInt (ints_give op x y)
+fine_ints Power x y t u e = fine_power x y e
+fine_ints Divide x y t u e = if_int (int_eq y (pos 0)) (Err ZeroDivisorOrStep) (Ok (v.Int (int_wrapping_div w64 x y))) zero_int (ok_int (v.Int (int_wrapping_div w64 x y))) e
+fine_ints Remainder x y t u e = if_int (int_eq y (pos 0)) (Err ZeroDivisorOrStep) (Ok (v.Int (int_rem x y))) zero_int (ok_int (v.Int (int_rem x y))) e
+fine_ints ShiftLeft x y t u e = fine_left x y e
+fine_ints ShiftRight x y t u e = fine_right x y e
+fine_ints Negate x y t u e = let n = u refl in cc
+fine_ints Plus x y t u e = let n = u refl in cc
+fine_ints Complement x y t u e = let n = u refl in cc
+fine_ints Not x y t u e = let n = u refl in cc
+fine_ints _ x y t u e = cc
+
+fine_text : (b : Bool) (t : List ℕ) → Fine (Some (let r : Result Fresh RunFault = if b then Ok (Made (v.Str t)) else Err TooLong in r))
+fine_text true t e = cc
+fine_text false t e = cc
+
+fine_texts : (op : Operator) (x y : List ℕ) (r : Result Fresh ThingFault) → takes op k.Str k.Str ≡ true → (is_unary op ≡ true → v.Str y ≡ v.Nil) → TextsGive op x y r → r ≡ Err (Run BadOperands) → ⊥
+fine_texts Add x y r t u h e = fine_text (nat_le (length (x ++ y)) 16777216) (x ++ y) (refused (text_meant (Some (x ++ y))) r h e)
+fine_texts Remainder x y r t u h e = subst (λ (s : Result Fresh ThingFault). FormatGives x (Some (arg.Str y ∷ [])) s) e h
+fine_texts Not x y r t u h e = let n = u refl in cc
+fine_texts _ x y r t u h e = cc
+
+fine_joins : (x y : Option ArrayThing) → Joins x y (Err (Run BadOperands)) → ⊥
+fine_joins None y h = h
+fine_joins (Some x) None h = h
+fine_joins (Some x) (Some y) h = h
+
+fine_sum : (things : Handle → Option Thing) (a b : Value) (r : Result Fresh ThingFault) → kinds.arrays (kind_of a) (kind_of b) ≡ true → SumGives things a b r → r ≡ Err (Run BadOperands) → ⊥
+fine_sum things (v.Array h) (v.Array j) r t g e = fine_joins (array_behind (things h)) (array_behind (things j)) (subst (λ (s : Result Fresh ThingFault). Joins (array_behind (things h)) (array_behind (things j)) s) e g)
+fine_sum things _ _ r t g e = cc
+
+fine_rest : (things : Handle → Option Thing) (names : ℕ → Option (List ℕ)) (a b : Value) (r : Result Fresh ThingFault) → kinds.pattern (kind_of a) ≡ true → RestGives things names a b r → r ≡ Err (Run BadOperands) → ⊥
+fine_rest things names (v.Str p) b r t g e = subst (λ (s : Result Fresh ThingFault). FormatGives p (arguments things names b) s) e g
+fine_rest things names _ b r t g e = cc
+
+fine_negate : (a : Value) → kinds.one_int (kind_of a) ≡ true → Fine (one_int Negate a)
+fine_negate (v.Int x) t e = cc
+fine_negate _ t e = cc
+
+fine_plus : (a : Value) → kinds.one_int (kind_of a) ≡ true → Fine (one_int Plus a)
+fine_plus (v.Int x) t e = cc
+fine_plus _ t e = cc
+
+fine_complement : (a : Value) → kinds.one_int (kind_of a) ≡ true → Fine (one_int Complement a)
+fine_complement (v.Int x) t e = cc
+fine_complement _ t e = cc
+
+neither : (p q : Bool) → p ≡ false → q ≡ false → p || q ≡ false
+neither p q f g = λ i. f i || g i
+
+-- the operators on values that are neither two ints nor two Strings
+fine_others : (things : Handle → Option Thing) (names : ℕ → Option (List ℕ)) (op : Operator) (a b : Value) (r : Result Fresh ThingFault) → kinds.ints (kind_of a) (kind_of b) ≡ false → kinds.texts (kind_of a) (kind_of b) ≡ false → takes op (kind_of a) (kind_of b) ≡ true → OthersGive things names op a b r → r ≡ Err (Run BadOperands) → ⊥
+fine_others things names Add a b r n m t g e = fine_sum things a b r (right_of_or _ _ (neither _ _ n m) t) g e
+fine_others things names Remainder a b r n m t g e = fine_rest things names a b r (right_of_or _ _ n t) g e
+fine_others things names Equal a b r n m t g e = fine_form bool_made (equal things a b) (fine_equal things a b t) (refused _ r g e)
+fine_others things names NotEqual a b r n m t g e = fine_form (λ yes. bool_made (not yes)) (equal things a b) (fine_equal things a b t) (refused _ r g e)
+fine_others things names Not a b r n m t g e = fine_form (λ yes. bool_made (not yes)) (truth things a) (fine_truth things a) (refused _ r g e)
+fine_others things names In a b r n m t g e = fine_form bool_made (is_inside things a b) (fine_in things a b m (right_of_or _ _ m t)) (refused _ r g e)
+fine_others things names NotIn a b r n m t g e = fine_form (λ yes. bool_made (not yes)) (is_inside things a b) (fine_in things a b m (right_of_or _ _ m t)) (refused _ r g e)
+fine_others things names Negate a b r n m t g e = fine_negate a t (refused (one_int Negate a) r g e)
+fine_others things names Plus a b r n m t g e = fine_plus a t (refused (one_int Plus a) r g e)
+fine_others things names Complement a b r n m t g e = fine_complement a t (refused (one_int Complement a) r g e)
+fine_others things names Less a b r n m t g e = let f = neither _ _ n m in cc
+fine_others things names LessEqual a b r n m t g e = let f = neither _ _ n m in cc
+fine_others things names Greater a b r n m t g e = let f = neither _ _ n m in cc
+fine_others things names GreaterEqual a b r n m t g e = let f = neither _ _ n m in cc
+fine_others things names _ a b r n m t g e = cc
+
+-- an operator that there is for the kinds of its operands, null standing on the right of one that takes one operand
+pub no_bad_operands : (things : Handle → Option Thing) (names : ℕ → Option (List ℕ)) (op : Operator) (a b : Value) (r : Result Fresh ThingFault) → takes op (kind_of a) (kind_of b) ≡ true → (is_unary op ≡ true → b ≡ v.Nil) → Applies things names op a b r → r ≡ Err (Run BadOperands) → ⊥
+no_bad_operands things names op (v.Int x) (v.Int y) r t u g e = fine_ints op x y t u (sym g ∙ e)
+no_bad_operands things names op (v.Str x) (v.Str y) r t u g e = fine_texts op x y r t u g e
+no_bad_operands things names op a b r t u g e = fine_others things names op a b r refl refl t g e
