@@ -1,5 +1,5 @@
 -- Operands whose types are known are of kinds for which there is the operator.
-use Rattle.std.proofs.Common.{◌≡◌, Bool, true, false, ◌&&◌, ◌||◌, not, ◌⊎◌, inl, inr, Option, None, Some, Result, Err, refl, ap, sym, ◌∙◌, if◌then◌else◌}
+use Rattle.std.proofs.Common.{◌≡◌, ℕ, List, Bool, true, false, ◌&&◌, ◌||◌, not, ◌⊎◌, inl, inr, Option, None, Some, Result, Err, refl, ap, sym, ◌∙◌, if◌then◌else◌}
 use Rattle.slot_arena.specs.declared.handle.Handle.{Handle}
 use Rattle.gd_syntax.specs.declared.operator.Operator.{Operator}
 use Rattle.gd_syntax.specs.declared.operator.Operator.TheVariants.{Remainder, Add, Equal, NotEqual, Less, LessEqual, Greater, GreaterEqual, In, NotIn, Negate, Plus, Complement, Not}
@@ -143,6 +143,6 @@ null_right op t l b e f u =
     let same : l ≡ k.Nil = cc in
     null_kind b (ap (λ x. fits_kind x (kind_of b)) (sym same) ∙ f)
 
-pub known_types : (things : Handle → Option Thing) (op : Operator) (s t : Ty) (same : Bool) (g : Given) (a b : Kind) (x y : Value) (r : Result Fresh ThingFault) → result_type op s t same ≡ Some g → kind_of_type s ≡ Some a → right_kind op t ≡ Some b → fits_kind a (kind_of x) ≡ true → fits_kind b (kind_of y) ≡ true → Applies things op x y r → r ≡ Err (Run BadOperands) → ⊥
-known_types things op s t same g a b x y r e es et fx fy =
-    no_bad_operands things op x y r (takes_fits op a b (kind_of x) (kind_of y) (there_is op s t same g a b e es et) fx fy) (null_right op t b y et fy)
+pub known_types : (things : Handle → Option Thing) (names : ℕ → Option (List ℕ)) (op : Operator) (s t : Ty) (same : Bool) (g : Given) (a b : Kind) (x y : Value) (r : Result Fresh ThingFault) → result_type op s t same ≡ Some g → kind_of_type s ≡ Some a → right_kind op t ≡ Some b → fits_kind a (kind_of x) ≡ true → fits_kind b (kind_of y) ≡ true → Applies things names op x y r → r ≡ Err (Run BadOperands) → ⊥
+known_types things names op s t same g a b x y r e es et fx fy =
+    no_bad_operands things names op x y r (takes_fits op a b (kind_of x) (kind_of y) (there_is op s t same g a b e es et) fx fy) (null_right op t b y et fy)

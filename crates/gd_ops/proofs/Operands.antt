@@ -22,7 +22,9 @@ use Rattle.gd_ops.specs.Ints.{answer, ints_give, power, shifted_left, shifted_ri
 use Rattle.gd_ops.specs.Kinds as kinds
 use Rattle.gd_ops.specs.Kinds.{kind_of, takes, is_unary, alike}
 use Rattle.gd_ops.specs.declared.kind.Kind.TheVariants as k
-use Rattle.gd_ops.specs.Texts.{TextsGive, FormatGives, text_meant}
+use Rattle.gd_text.specs.declared.formatting.Arg.TheVariants as arg
+use Rattle.gd_ops.specs.Formatted.{arguments, FormatGives}
+use Rattle.gd_ops.specs.Texts.{TextsGive, text_meant}
 use Rattle.gd_ops.specs.Values.{Applies, OthersGive, SumGives, RestGives, Joins, equal, truth, is_inside, is_element, has_key, as_key, first_place, one_int, bool_made}
 
 -- a meaning that does not refuse its operands
@@ -188,7 +190,7 @@ fine_text false t e = cc
 
 fine_texts : (op : Operator) (x y : List ℕ) (r : Result Fresh ThingFault) → takes op k.Str k.Str ≡ true → (is_unary op ≡ true → v.Str y ≡ v.Nil) → TextsGive op x y r → r ≡ Err (Run BadOperands) → ⊥
 fine_texts Add x y r t u h e = fine_text (nat_le (length (x ++ y)) 16777216) (x ++ y) (refused (text_meant (Some (x ++ y))) r h e)
-fine_texts Remainder x y r t u h e = subst (λ (s : Result Fresh ThingFault). FormatGives s) e h
+fine_texts Remainder x y r t u h e = subst (λ (s : Result Fresh ThingFault). FormatGives x (Some (arg.Str y ∷ [])) s) e h
 fine_texts Not x y r t u h e = let n = u refl in cc
 fine_texts _ x y r t u h e = cc
 
@@ -201,9 +203,9 @@ fine_sum : (things : Handle → Option Thing) (a b : Value) (r : Result Fresh Th
 fine_sum things (v.Array h) (v.Array j) r t g e = fine_joins (array_behind (things h)) (array_behind (things j)) (subst (λ (s : Result Fresh ThingFault). Joins (array_behind (things h)) (array_behind (things j)) s) e g)
 fine_sum things _ _ r t g e = cc
 
-fine_rest : (a : Value) (r : Result Fresh ThingFault) → kinds.pattern (kind_of a) ≡ true → RestGives a r → r ≡ Err (Run BadOperands) → ⊥
-fine_rest (v.Str p) r t g e = subst (λ (s : Result Fresh ThingFault). FormatGives s) e g
-fine_rest _ r t g e = cc
+fine_rest : (things : Handle → Option Thing) (names : ℕ → Option (List ℕ)) (a b : Value) (r : Result Fresh ThingFault) → kinds.pattern (kind_of a) ≡ true → RestGives things names a b r → r ≡ Err (Run BadOperands) → ⊥
+fine_rest things names (v.Str p) b r t g e = subst (λ (s : Result Fresh ThingFault). FormatGives p (arguments things names b) s) e g
+fine_rest things names _ b r t g e = cc
 
 fine_negate : (a : Value) → kinds.one_int (kind_of a) ≡ true → Fine (one_int Negate a)
 fine_negate (v.Int x) t e = cc
@@ -221,25 +223,25 @@ neither : (p q : Bool) → p ≡ false → q ≡ false → p || q ≡ false
 neither p q f g = λ i. f i || g i
 
 -- the operators on values that are neither two ints nor two Strings
-fine_others : (things : Handle → Option Thing) (op : Operator) (a b : Value) (r : Result Fresh ThingFault) → kinds.ints (kind_of a) (kind_of b) ≡ false → kinds.texts (kind_of a) (kind_of b) ≡ false → takes op (kind_of a) (kind_of b) ≡ true → OthersGive things op a b r → r ≡ Err (Run BadOperands) → ⊥
-fine_others things Add a b r n m t g e = fine_sum things a b r (right_of_or _ _ (neither _ _ n m) t) g e
-fine_others things Remainder a b r n m t g e = fine_rest a r (right_of_or _ _ n t) g e
-fine_others things Equal a b r n m t g e = fine_form bool_made (equal things a b) (fine_equal things a b t) (refused _ r g e)
-fine_others things NotEqual a b r n m t g e = fine_form (λ yes. bool_made (not yes)) (equal things a b) (fine_equal things a b t) (refused _ r g e)
-fine_others things Not a b r n m t g e = fine_form (λ yes. bool_made (not yes)) (truth things a) (fine_truth things a) (refused _ r g e)
-fine_others things In a b r n m t g e = fine_form bool_made (is_inside things a b) (fine_in things a b m (right_of_or _ _ m t)) (refused _ r g e)
-fine_others things NotIn a b r n m t g e = fine_form (λ yes. bool_made (not yes)) (is_inside things a b) (fine_in things a b m (right_of_or _ _ m t)) (refused _ r g e)
-fine_others things Negate a b r n m t g e = fine_negate a t (refused (one_int Negate a) r g e)
-fine_others things Plus a b r n m t g e = fine_plus a t (refused (one_int Plus a) r g e)
-fine_others things Complement a b r n m t g e = fine_complement a t (refused (one_int Complement a) r g e)
-fine_others things Less a b r n m t g e = let f = neither _ _ n m in cc
-fine_others things LessEqual a b r n m t g e = let f = neither _ _ n m in cc
-fine_others things Greater a b r n m t g e = let f = neither _ _ n m in cc
-fine_others things GreaterEqual a b r n m t g e = let f = neither _ _ n m in cc
-fine_others things _ a b r n m t g e = cc
+fine_others : (things : Handle → Option Thing) (names : ℕ → Option (List ℕ)) (op : Operator) (a b : Value) (r : Result Fresh ThingFault) → kinds.ints (kind_of a) (kind_of b) ≡ false → kinds.texts (kind_of a) (kind_of b) ≡ false → takes op (kind_of a) (kind_of b) ≡ true → OthersGive things names op a b r → r ≡ Err (Run BadOperands) → ⊥
+fine_others things names Add a b r n m t g e = fine_sum things a b r (right_of_or _ _ (neither _ _ n m) t) g e
+fine_others things names Remainder a b r n m t g e = fine_rest things names a b r (right_of_or _ _ n t) g e
+fine_others things names Equal a b r n m t g e = fine_form bool_made (equal things a b) (fine_equal things a b t) (refused _ r g e)
+fine_others things names NotEqual a b r n m t g e = fine_form (λ yes. bool_made (not yes)) (equal things a b) (fine_equal things a b t) (refused _ r g e)
+fine_others things names Not a b r n m t g e = fine_form (λ yes. bool_made (not yes)) (truth things a) (fine_truth things a) (refused _ r g e)
+fine_others things names In a b r n m t g e = fine_form bool_made (is_inside things a b) (fine_in things a b m (right_of_or _ _ m t)) (refused _ r g e)
+fine_others things names NotIn a b r n m t g e = fine_form (λ yes. bool_made (not yes)) (is_inside things a b) (fine_in things a b m (right_of_or _ _ m t)) (refused _ r g e)
+fine_others things names Negate a b r n m t g e = fine_negate a t (refused (one_int Negate a) r g e)
+fine_others things names Plus a b r n m t g e = fine_plus a t (refused (one_int Plus a) r g e)
+fine_others things names Complement a b r n m t g e = fine_complement a t (refused (one_int Complement a) r g e)
+fine_others things names Less a b r n m t g e = let f = neither _ _ n m in cc
+fine_others things names LessEqual a b r n m t g e = let f = neither _ _ n m in cc
+fine_others things names Greater a b r n m t g e = let f = neither _ _ n m in cc
+fine_others things names GreaterEqual a b r n m t g e = let f = neither _ _ n m in cc
+fine_others things names _ a b r n m t g e = cc
 
 -- an operator that there is for the kinds of its operands, null standing on the right of one that takes one operand
-pub no_bad_operands : (things : Handle → Option Thing) (op : Operator) (a b : Value) (r : Result Fresh ThingFault) → takes op (kind_of a) (kind_of b) ≡ true → (is_unary op ≡ true → b ≡ v.Nil) → Applies things op a b r → r ≡ Err (Run BadOperands) → ⊥
-no_bad_operands things op (v.Int x) (v.Int y) r t u g e = fine_ints op x y t u (sym g ∙ e)
-no_bad_operands things op (v.Str x) (v.Str y) r t u g e = fine_texts op x y r t u g e
-no_bad_operands things op a b r t u g e = fine_others things op a b r refl refl t g e
+pub no_bad_operands : (things : Handle → Option Thing) (names : ℕ → Option (List ℕ)) (op : Operator) (a b : Value) (r : Result Fresh ThingFault) → takes op (kind_of a) (kind_of b) ≡ true → (is_unary op ≡ true → b ≡ v.Nil) → Applies things names op a b r → r ≡ Err (Run BadOperands) → ⊥
+no_bad_operands things names op (v.Int x) (v.Int y) r t u g e = fine_ints op x y t u (sym g ∙ e)
+no_bad_operands things names op (v.Str x) (v.Str y) r t u g e = fine_texts op x y r t u g e
+no_bad_operands things names op a b r t u g e = fine_others things names op a b r refl refl t g e

@@ -1,6 +1,8 @@
 pub mod Answer
+pub mod Arguments
 pub mod Builtins
 pub mod Equality
+pub mod Formatted
 pub mod Functions
 pub mod Ints
 pub mod Kinds

@@ -1,5 +1,5 @@
 -- What the operators give on two Strings.
-use Rattle.std.specs.Prelude.{◌≡◌, ⊤, ℕ, nat_le, if◌then◌else◌, pos, not, List, ◌++◌, is_some, is_none, Option, None, Some, Result, Ok, Err}
+use Rattle.std.specs.Prelude.{◌≡◌, ℕ, nat_le, if◌then◌else◌, pos, not, List, [], ◌∷◌, ◌++◌, is_some, is_none, Option, None, Some, Result, Ok, Err}
 use Rattle.std.specs.Cmp.Lexicographic.{slice_cmp}
 use Rattle.std.specs.Ordering.{nat_cmp, is_lt, is_gt}
 use Rattle.std.specs.Prelude.{length}
@@ -9,14 +9,16 @@ use Rattle.gd_syntax.specs.declared.operator.Operator.TheVariants.{Add, Equal, N
 use Rattle.gd_syntax.specs.declared.text.TextFault.{TextFault}
 use Rattle.gd_syntax.specs.declared.text.TextFault.TheVariants as t
 use Rattle.gd_model.specs.declared.fault.RunFault.{RunFault}
-use Rattle.gd_model.specs.declared.fault.RunFault.TheVariants.{BadFormat, BadOperands, OutOfRange, TooLong}
+use Rattle.gd_model.specs.declared.fault.RunFault.TheVariants.{BadOperands, OutOfRange, TooLong}
 use Rattle.gd_model.specs.declared.value.Value.TheVariants.{Bool as BoolValue, Str}
 use Rattle.gd_containers.specs.declared.fault.ThingFault.{ThingFault}
 use Rattle.gd_containers.specs.declared.fault.ThingFault.TheVariants.{Run, NoMemory}
 use Rattle.gd_ops.specs.declared.fresh.Fresh.{Fresh}
 use Rattle.gd_ops.specs.declared.fresh.Fresh.TheVariants.{Value as Made}
 use Rattle.gd_text.specs.Search.{find}
+use Rattle.gd_text.specs.declared.formatting.Arg.TheVariants as arg
 use Rattle.gd_ops.specs.Answer.{Answers}
+use Rattle.gd_ops.specs.Formatted.{FormatGives}
 
 -- the refusal that a fault of a text call is
 abbrev pub text_fault : TextFault → ThingFault
@@ -30,24 +32,10 @@ abbrev pub text_meant : Option (List ℕ) → Option (Result Fresh RunFault)
 text_meant None = Some (Err OutOfRange)
 text_meant (Some t) = Some (if nat_le (length t) 16777216 then Ok (Made (Str t)) else Err TooLong)
 
--- the faults of a text that is to be made: too long, and want of memory
-abbrev pub IsLimit : ThingFault → Type 0
-IsLimit (Run TooLong) = ⊤
-IsLimit NoMemory = ⊤
-IsLimit f = ⊥
-
--- `%` gives a String, or is a bad format or too long; which one is left to formatting
-abbrev pub FormatGives : Result Fresh ThingFault → Type 0
-FormatGives (Ok (Made (Str t))) = ⊤
-FormatGives (Err (Run BadFormat)) = ⊤
-FormatGives (Err (Run TooLong)) = ⊤
-FormatGives (Err NoMemory) = ⊤
-FormatGives r = ⊥
-
 -- an operator between two Strings
 abbrev pub TextsGive : Operator → List ℕ → List ℕ → Result Fresh ThingFault → Type 0
 TextsGive Add x y r = Answers (text_meant (Some (x ++ y))) r
-TextsGive Remainder x y r = FormatGives r
+TextsGive Remainder x y r = FormatGives x (Some (arg.Str y ∷ [])) r
 TextsGive Equal x y r = r ≡ Ok (Made (BoolValue (bytes_eq x y)))
 TextsGive NotEqual x y r = r ≡ Ok (Made (BoolValue (not (bytes_eq x y))))
 TextsGive Less x y r = r ≡ Ok (Made (BoolValue (is_lt (slice_cmp nat_cmp x y))))

@@ -1,4 +1,5 @@
--- What the operators give on values. `things` says which thing is behind a handle.
+-- What the operators give on values. `things` says which thing is behind a handle, and `names` has the names of the
+-- classes.
 use Rattle.std.specs.Prelude.{◌≡◌, ⊤, ℕ, ◌+◌, ◌≤◌, Bool, true, false, not, ◌==◌, List, [], ◌∷◌, ◌++◌, length, option_map, is_some, ◌⊎◌, ◌≢◌, Option, None, Some, Result, Ok, Err, if◌then◌else◌, pos}
 use Rattle.std.specs.Ordering.{int_eq}
 use Rattle.slot_arena.specs.declared.handle.Handle.{Handle}
@@ -22,7 +23,8 @@ use Rattle.gd_ops.specs.Answer.{and_then, in_form, Answers}
 use Rattle.gd_ops.specs.Equality.{same}
 use Rattle.gd_ops.specs.Ints.{answer, ints_give, int_gives}
 use Rattle.gd_ops.specs.Kinds.{kind_of, alike}
-use Rattle.gd_ops.specs.Texts.{TextsGive, FormatGives}
+use Rattle.gd_ops.specs.Formatted.{arguments, FormatGives}
+use Rattle.gd_ops.specs.Texts.{TextsGive}
 
 abbrev pub bool_made : Bool → Fresh
 bool_made b = Made (BoolValue b)
@@ -104,18 +106,18 @@ SumGives things (Array h) (Array i) r = Joins (array_behind (things h)) (array_b
 SumGives things a b r = r ≡ Err (Run BadOperands)
 
 -- `%` of a String and any value
-abbrev pub RestGives : Value → Result Fresh ThingFault → Type 0
-RestGives (Str pattern) r = FormatGives r
-RestGives a r = r ≡ Err (Run BadOperands)
+abbrev pub RestGives : (Handle → Option Thing) → (ℕ → Option (List ℕ)) → Value → Value → Result Fresh ThingFault → Type 0
+RestGives things names (Str pattern) b r = FormatGives pattern (arguments things names b) r
+RestGives things names a b r = r ≡ Err (Run BadOperands)
 
 -- an operator on values that are neither two ints nor two Strings
-abbrev pub OthersGive : (Handle → Option Thing) → Operator → Value → Value → Result Fresh ThingFault → Type 0
-OthersGive things Add a b r = SumGives things a b r
-OthersGive things Remainder a b r = RestGives a r
-OthersGive things op a b r = Answers (tests_give things op a b) r
+abbrev pub OthersGive : (Handle → Option Thing) → (ℕ → Option (List ℕ)) → Operator → Value → Value → Result Fresh ThingFault → Type 0
+OthersGive things names Add a b r = SumGives things a b r
+OthersGive things names Remainder a b r = RestGives things names a b r
+OthersGive things names op a b r = Answers (tests_give things op a b) r
 
 -- what an operator gives on two values; the right one counts for nothing where it takes one operand
-abbrev pub Applies : (Handle → Option Thing) → Operator → Value → Value → Result Fresh ThingFault → Type 0
-Applies things op (Int x) (Int y) r = r ≡ answer (ints_give op x y)
-Applies things op (Str x) (Str y) r = TextsGive op x y r
-Applies things op a b r = OthersGive things op a b r
+abbrev pub Applies : (Handle → Option Thing) → (ℕ → Option (List ℕ)) → Operator → Value → Value → Result Fresh ThingFault → Type 0
+Applies things names op (Int x) (Int y) r = r ≡ answer (ints_give op x y)
+Applies things names op (Str x) (Str y) r = TextsGive op x y r
+Applies things names op a b r = OthersGive things names op a b r

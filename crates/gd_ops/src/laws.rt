@@ -1,5 +1,5 @@
 //! Laws of the operators' definition: the functions here state them, and do nothing.
-ghost use Rattle.std.specs.Prelude.{◌≡◌, Bool, true, Option, Result};
+ghost use Rattle.std.specs.Prelude.{◌≡◌, ℕ, List, Bool, true, Option, Result};
 ghost use Rattle.slot_arena.specs.declared.handle.Handle.{Handle};
 ghost use Rattle.gd_syntax.specs.declared.operator.Operator.{Operator};
 ghost use Rattle.gd_model.specs.declared.fault.RunFault.TheVariants.{BadOperands};
@@ -19,14 +19,14 @@ ghost use Rattle.gd_ops.specs.Values.{Applies};
 /// `apply` does not refuse them as bad operands.
 #[tactic(auto, using(crate::proofs::Operands::no_bad_operands))]
 pub fn no_bad_operands()
-    ensures { (things : Handle → Option Thing) (op : Operator) (a : Value) (b : Value) (r : Result Fresh ThingFault)
-        → takes op (kind_of a) (kind_of b) ≡ true → (is_unary op ≡ true → b ≡ Nil) → Applies things op a b r → ¬ (r ≡ Err (Run BadOperands)) }
+    ensures { (things : Handle → Option Thing) (names : ℕ → Option (List ℕ)) (op : Operator) (a : Value) (b : Value) (r : Result Fresh ThingFault)
+        → takes op (kind_of a) (kind_of b) ≡ true → (is_unary op ≡ true → b ≡ Nil) → Applies things names op a b r → ¬ (r ≡ Err (Run BadOperands)) }
 {}
 
 /// Where `result_type` gives a type for operands whose types are known, and the values fit these types, `apply` does
 /// not refuse them as bad operands.
 pub fn known_types_have_no_bad_operands()
-    ensures { (things : Handle → Option Thing) (op : Operator) (s : Ty) (t : Ty) (same : Bool) (g : Given) (k : Kind) (l : Kind) (a : Value) (b : Value) (r : Result Fresh ThingFault)
+    ensures { (things : Handle → Option Thing) (names : ℕ → Option (List ℕ)) (op : Operator) (s : Ty) (t : Ty) (same : Bool) (g : Given) (k : Kind) (l : Kind) (a : Value) (b : Value) (r : Result Fresh ThingFault)
         → result_type op s t same ≡ Some g → kind_of_type s ≡ Some k → right_kind op t ≡ Some l
-        → fits_kind k (kind_of a) ≡ true → fits_kind l (kind_of b) ≡ true → Applies things op a b r → ¬ (r ≡ Err (Run BadOperands)) }
+        → fits_kind k (kind_of a) ≡ true → fits_kind l (kind_of b) ≡ true → Applies things names op a b r → ¬ (r ≡ Err (Run BadOperands)) }
 {}

@@ -1,6 +1,7 @@
 //! Operators, builtins and printed forms (docs/runtime.md).
 #![tactic(auto)]
 
+mod arguments;
 mod array_methods;
 mod builtin;
 mod dict_methods;

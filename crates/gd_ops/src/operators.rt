@@ -4,21 +4,19 @@ ghost use Rattle.gd_model.specs.declared.fault.RunFault.{RunFault};
 ghost use Rattle.gd_model.specs.Store.{array_behind, dict_behind};
 ghost use Rattle.gd_ops.specs.Answer.{Answers, exact, in_form};
 ghost use Rattle.gd_ops.specs.Equality.{same};
-ghost use Rattle.gd_ops.specs.Texts.{FormatGives, IsLimit};
 ghost use Rattle.gd_ops.specs.Values as spec;
 ghost use Rattle.gd_ops.specs.Values.{Applies, OthersGive, SumGives, RestGives, Joins};
 
+use crate::arguments::format_with;
 use crate::equality::{never_comes, same};
 use crate::fresh::{Fresh, boolean, refused};
 use crate::ints::{apply_int, apply_ints};
 use crate::kind::kind_of;
-use crate::print::text_of;
 use crate::rows::alike;
-use crate::texts::{apply_texts, formatted};
+use crate::texts::apply_texts;
 use gd_containers::{Look, MAX_ITEMS, ThingFault, TypedArray, key_of};
 use gd_model::{RunFault, Ty, Value};
-use gd_syntax::{Operator, Text};
-use gd_text::Arg;
+use gd_syntax::Operator;
 use slot_arena::Handle;
 use std::alloc::Global;
 
@@ -31,7 +29,7 @@ pub fn apply<K: Look>(
     b: &Value,
     look: &K,
 ) -> Result<Fresh, ThingFault>
-    ensures { Applies (K.things look.now) op a.now b.now result }
+    ensures { Applies (K.things look.now) (K.names look.now) op a.now b.now result }
 {
     match (a, b) {
         (Value::Int(x), Value::Int(y)) => apply_ints(op, *x, *y),
@@ -48,7 +46,7 @@ fn apply_others<K: Look>(
     b: &Value,
     look: &K,
 ) -> Result<Fresh, ThingFault>
-    ensures { OthersGive (K.things look.now) op a.now b.now result }
+    ensures { OthersGive (K.things look.now) (K.names look.now) op a.now b.now result }
 {
     match op {
         Operator::Add => add(alloc, a, b, look),
@@ -67,10 +65,10 @@ fn add<K: Look>(alloc: Global, a: &Value, b: &Value, look: &K) -> Result<Fresh, 
 }
 
 fn rest<K: Look>(alloc: Global, a: &Value, b: &Value, look: &K) -> Result<Fresh, ThingFault>
-    ensures { RestGives a.now result }
+    ensures { RestGives (K.things look.now) (K.names look.now) a.now b.now result }
 {
     match a {
-        Value::Str(pattern) => format_one(alloc, pattern, b, look),
+        Value::Str(pattern) => format_with(alloc, pattern, b, look),
         _ => refused(RunFault::BadOperands),
     }
 }
@@ -200,49 +198,6 @@ pub fn first_place<K: Look>(
         }
     }
     Ok(None)
-}
-
-/// The pattern with the elements of an array, or with any other value as the one argument.
-fn format_one<K: Look>(
-    alloc: Global,
-    pattern: &Text,
-    v: &Value,
-    look: &K,
-) -> Result<Fresh, ThingFault>
-    ensures { FormatGives result }
-{
-    let mut args = Vec::new(alloc);
-    match v {
-        Value::Array(h) => {
-            let Some(array) = look.array(*h) else {
-                return Err(never_comes());
-            };
-            for item in array.items() {
-                put_arg(alloc, &mut args, item, look)?;
-            }
-        }
-        _ => put_arg(alloc, &mut args, v, look)?,
-    }
-    formatted(alloc, pattern, args.as_slice())
-}
-
-fn put_arg<K: Look>(
-    alloc: Global,
-    args: &mut Vec<Arg>,
-    v: &Value,
-    look: &K,
-) -> Result<(), ThingFault>
-    ensures { IfErr result IsLimit }
-{
-    let arg = match v {
-        Value::Int(n) => Arg::Num(*n),
-        Value::Str(text) => Arg::Str(text.share()?),
-        _ => Arg::Other(text_of(alloc, v, look)?),
-    };
-    match args.push(arg) {
-        Ok(()) => Ok(()),
-        Err(_) => Err(ThingFault::NoMemory),
-    }
 }
 
 /// A new array of the elements of the one and then of the other, with their element type where they have one.

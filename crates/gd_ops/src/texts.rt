@@ -1,8 +1,9 @@
 //! The operators on Strings.
-ghost use Rattle.gd_ops.specs.Texts.{TextsGive, FormatGives, text_meant, text_fault};
+ghost use Rattle.gd_ops.specs.Texts.{TextsGive, text_meant, text_fault};
+ghost use Rattle.gd_ops.specs.Formatted.{FormatGives};
 ghost use Rattle.gd_ops.specs.Answer.{Answers};
 ghost use Rattle.gd_text.specs.Text.{Gives};
-ghost use Rattle.std.specs.Prelude.{◌≡◌, List, ℕ, Option};
+ghost use Rattle.std.specs.Prelude.{◌≡◌, List, ℕ, Option, Some};
 
 use crate::equality::never_comes;
 use crate::fresh::{Fresh, boolean, refused};
@@ -35,9 +36,10 @@ pub fn text(made: Result<Text, TextFault>) -> Result<Fresh, ThingFault>
     }
 }
 
-/// The text that a pattern gives. `BadFormat`, then `TooLong`.
+/// The text that a pattern gives. `BadFormat` exactly where there is none, then `TooLong` exactly where it passes the
+/// limit of a text.
 pub fn formatted(alloc: Global, pattern: &Text, args: &[Arg]) -> Result<Fresh, ThingFault>
-    ensures { FormatGives result }
+    ensures { FormatGives pattern.now (Some args.now) result }
 {
     match format(alloc, pattern, args) {
         Ok(text) => Ok(Fresh::Value(Value::Str(text))),

@@ -1,0 +1,156 @@
+//! A pattern with the arguments that the right operand of `%` gives (docs/runtime.md, "Formatting").
+ghost use Rattle.std.specs.Prelude.{◌≡◌, Option, List, ℕ, [], ◌∷◌, ◌++◌, Some, IfOk, OnOk, IfErr, map, option_map};
+ghost use Rattle.gd_text.specs.declared.formatting.Arg.TheVariants as arg;
+ghost use Rattle.gd_ops.specs.Printed.{GivesForm};
+ghost use Rattle.gd_ops.specs.Formatted as spec;
+ghost use Rattle.gd_ops.specs.Formatted.{FormatGives};
+ghost use Rattle.gd_ops.specs.Arguments.{IsArgument, AllStand, limited};
+
+use crate::equality::never_comes;
+use crate::fresh::{Fresh, refused};
+use crate::print::text_of;
+use crate::texts::formatted;
+use gd_containers::{Look, ThingFault};
+use gd_model::{RunFault, Value};
+use gd_syntax::Text;
+use gd_text::Arg;
+use std::alloc::Global;
+
+/// The arguments of a pattern. An empty text stands in for a printed form that passes the limit of a text: the pattern
+/// may still not fit them, and that fault goes first.
+#[derive(Drop)]
+struct Arguments {
+    list: Vec<Arg>,
+    too_long: bool,
+}
+
+/// The text of the pattern with the elements of an array, or with any other value as the one argument. `BadFormat`
+/// exactly where there is none, then `TooLong` exactly where it passes the limit of a text.
+pub fn format_with<K: Look>(
+    alloc: Global,
+    pattern: &Text,
+    v: &Value,
+    look: &K,
+) -> Result<Fresh, ThingFault>
+    ensures { FormatGives pattern.now (spec.arguments (K.things look.now) (K.names look.now) v.now) result }
+{
+    match v {
+        Value::Array(h) => match look.array(*h) {
+            Some(array) => format_all(alloc, pattern, array.items(), look),
+            None => Err(never_comes()),
+        },
+        _ => format_one(alloc, pattern, v, look),
+    }
+}
+
+fn format_one<K: Look>(
+    alloc: Global,
+    pattern: &Text,
+    v: &Value,
+    look: &K,
+) -> Result<Fresh, ThingFault>
+    ensures { FormatGives pattern.now (spec.all_there (spec.argument (K.things look.now) (K.names look.now) v.now ∷ [])) result }
+{
+    let mut args = Arguments::new(alloc);
+    args.put(alloc, v, look)?;
+    args.fill(alloc, pattern)
+}
+
+fn format_all<K: Look>(
+    alloc: Global,
+    pattern: &Text,
+    items: &[Value],
+    look: &K,
+) -> Result<Fresh, ThingFault>
+    ensures { FormatGives pattern.now (spec.all_there (map (spec.argument (K.things look.now) (K.names look.now)) items.now)) result }
+{
+    let mut args = Arguments::new(alloc);
+    for item in items {
+        args.put(alloc, item, look)?;
+    }
+    args.fill(alloc, pattern)
+}
+
+impl Arguments {
+    fn new(alloc: Global) -> Arguments
+        ensures { AllStand [] result.list.items result.too_long }
+    {
+        Arguments {
+            list: Vec::new(alloc),
+            too_long: false,
+        }
+    }
+
+    /// Puts the argument that the value is at the end; only memory may lack.
+    fn put<K: Look>(&mut self, alloc: Global, v: &Value, look: &K) -> Result<(), ThingFault>
+        ensures ok { IfOk result (λ _. (wants : List (Option Arg)) → AllStand wants self.old.list.items self.old.too_long → AllStand (wants ++ spec.argument (K.things look.now) (K.names look.now) v.now ∷ []) self.new.list.items self.new.too_long) }
+        ensures err { IfErr result (λ fault. fault ≡ ThingFault.NoMemory) }
+    {
+        match argument(alloc, v, look)? {
+            Some(arg) => push(&mut self.list, arg),
+            None => {
+                self.too_long = true;
+                push(&mut self.list, Arg::Other(empty(alloc)?))
+            }
+        }
+    }
+
+    /// The text that the pattern gives with the arguments.
+    fn fill(&self, alloc: Global, pattern: &Text) -> Result<Fresh, ThingFault>
+        ensures { (wants : List (Option Arg)) → AllStand wants self.now.list.items self.now.too_long → FormatGives pattern.now (spec.all_there wants) result }
+    {
+        let made = formatted(alloc, pattern, self.list.as_slice());
+        within(self.too_long, made)
+    }
+}
+
+/// The answer, but `TooLong` in place of a text of which a part passes the limit.
+fn within(too_long: bool, made: Result<Fresh, ThingFault>) -> Result<Fresh, ThingFault>
+    ensures { result ≡ limited too_long made }
+{
+    match made {
+        Ok(_) if too_long => refused(RunFault::TooLong),
+        made => made,
+    }
+}
+
+fn push(list: &mut Vec<Arg>, arg: Arg) -> Result<(), ThingFault>
+    ensures ok { OnOk result (list.new.items ≡ list.old.items ++ arg ∷ []) }
+    ensures err { IfErr result (λ fault. fault ≡ ThingFault.NoMemory) }
+{
+    match list.push(arg) {
+        Ok(()) => Ok(()),
+        Err(_) => Err(ThingFault::NoMemory),
+    }
+}
+
+fn empty(alloc: Global) -> Result<Text, ThingFault>
+    ensures { IfErr result (λ fault. fault ≡ ThingFault.NoMemory) }
+{
+    match Text::of(Vec::new(alloc)) {
+        Ok(text) => Ok(text),
+        Err(_) => Err(ThingFault::NoMemory),
+    }
+}
+
+/// The argument that the value is, or none where its printed form passes the limit of a text.
+fn argument<K: Look>(alloc: Global, v: &Value, look: &K) -> Result<Option<Arg>, ThingFault>
+    ensures { IsArgument (spec.argument (K.things look.now) (K.names look.now) v.now) result }
+{
+    match v {
+        Value::Int(n) => Ok(Some(Arg::Num(*n))),
+        Value::Str(text) => Ok(Some(Arg::Str(text.share()?))),
+        _ => other(text_of(alloc, v, look)),
+    }
+}
+
+/// The argument with a printed form that was made, or none where it passes the limit of a text.
+fn other(made: Result<Text, ThingFault>) -> Result<Option<Arg>, ThingFault>
+    ensures { (form : Option (List ℕ)) → GivesForm form made → IsArgument (option_map arg.Other form) result }
+{
+    match made {
+        Ok(text) => Ok(Some(Arg::Other(text))),
+        Err(ThingFault::Run(RunFault::TooLong)) => Ok(None),
+        Err(fault) => Err(fault),
+    }
+}
