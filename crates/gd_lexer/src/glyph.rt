@@ -18,12 +18,13 @@ pub fn width(glyph: Glyph) -> usize
 }
 
 /// The first glyph of some bytes.
+#[inline(always)]
 #[tactic(auto, unfolding(crate::specs::Glyphs::first_glyph, crate::specs::Glyphs::decoded))]
 pub fn first(bytes: &[u8]) -> Option<Glyph>
     ensures value { result ≡ spec.first_glyph bytes.now }
     ensures within { IfSome result (λ g. spec.width g ≤ length bytes.now) }
 {
-    // Most characters are ASCII. This part is short, so that the compiler puts it where it is called.
+    // Most characters are ASCII, so that this part stands where it is called.
     match bytes {
         [byte, ..] if *byte < 0x80 => Some(Glyph::Char(char::from(*byte))),
         _ => first_of_any(bytes),
@@ -31,6 +32,8 @@ pub fn first(bytes: &[u8]) -> Option<Glyph>
 }
 
 /// The first glyph of bytes that begin with any character.
+#[cold]
+#[inline(never)]
 #[tactic(auto, unfolding(crate::specs::Glyphs::first_glyph), using(crate::proofs::GlyphLemmas::decoded_fits))]
 fn first_of_any(bytes: &[u8]) -> Option<Glyph>
     ensures value { result ≡ spec.first_glyph bytes.now }
