@@ -1,8 +1,7 @@
 -- Items by the role of a token.
-use Rattle.std.proofs.Common.{◌≡◌, ℕ, Bool, true, false, cond, List, [], ◌∷◌, refl}
+use Rattle.std.proofs.Common.{◌≡◌, ℕ, Bool, true, false, cond, List, ◌∷◌, refl}
 use Rattle.gd_syntax.specs.declared.token.TokenKind.{TokenKind}
 use Rattle.gd_syntax.specs.declared.token.TokenKind.TheVariants as kinds
-use Rattle.gd_syntax.specs.declared.token.Mark.{Mark}
 use Rattle.gd_lexis.specs.Lines.{is_opening, is_closing}
 use Rattle.gd_lexis.specs.Items.{is_separator, counted, closed, ended}
 use Rattle.gd_lexer.specs.Brackets.{items_by, items_after, role_of, role_by}

@@ -1,10 +1,12 @@
 -- Laws of cursors.
 use Rattle.std.proofs.Common.{◌≡◌, ℕ, zero, suc, ◌+◌, ◌-◌, ◌≤◌, Bool, true, false, cond, List, [], ◌∷◌, length, drop, slice_get, length-drop, refl, ap, sym, ◌∙◌, arith, subst}
-use Rattle.std.specs.Prelude.{Option, Some, None, OnSome, IfNone, ◌<◌}
+use Rattle.std.proofs.lemmas.Bool.Decides.{nat_tests}
+use Rattle.std.specs.Prelude.{Option, Some, None, OnSome, IfNone, ◌<◌, slice_index}
 use Rattle.gd_syntax.specs.declared.pos.Pos.{Pos}
 use Rattle.gd_lexis.specs.declared.glyph.Glyph.{Glyph}
+use Rattle.gd_lexis.specs.declared.glyph.Glyph.TheVariants.{Char}
 use Rattle.gd_lexer.specs.Glyphs.{decoded, glyph_or, first_glyph, width, glyphs, after_first}
-use Rattle.gd_lexer.specs.Cursor.{Spot, advanced, advanced_over, after_glyph}
+use Rattle.gd_lexer.specs.Cursor.{Spot, advanced, after_glyph}
 use Rattle.gd_lexer.proofs.GlyphLemmas.{glyphs_cons}
 
 pub glyph_0 : (bs : List ℕ) → first_glyph bs ≡ slice_get (glyphs bs) 0
@@ -54,3 +56,12 @@ head_some (g ∷ gs) r e = rw e (omega arith)
 pub head_none : (gs : List Glyph) (r : Option Glyph) → r ≡ slice_get gs 0 → IfNone r (length gs ≡ 0)
 head_none [] r e = rw e refl
 head_none (g ∷ gs) r e = rw e tt
+
+-- bytes that begin with one below 128 begin with that character
+pub ascii_first : (bs : List ℕ) → 1 ≤ length bs → slice_index bs 0 < 128 → Some (Char (slice_index bs 0)) ≡ first_glyph bs
+unfolding first_glyph decoded
+ascii_first [] n h = absurd (omega arith)
+ascii_first (b ∷ bs) n h = grind (arith, nat_tests)
+
+pub ascii_width : (b : ℕ) → b < 128 → 1 ≡ width (Char b)
+ascii_width b h = grind (arith, nat_tests)

@@ -1,14 +1,13 @@
 -- Bytes are read as their glyphs.
-use Rattle.std.proofs.Common.{◌≡◌, ℕ, zero, suc, ◌+◌, ◌-◌, ◌*◌, ◌/◌, ◌%◌, ◌≤◌, ◌<◌, true, false, cond, Bool, List, [], ◌∷◌, ◌++◌, length, drop, slice_index, refl, ap, sym, ◌∙◌, arith, rules, subst, inl, inr, drop_at, append_assoc, length-drop}
+use Rattle.std.proofs.Common.{◌≡◌, ℕ, zero, suc, ◌+◌, ◌-◌, ◌*◌, ◌/◌, ◌%◌, ◌≤◌, ◌<◌, true, false, cond, Bool, List, [], ◌∷◌, ◌++◌, length, drop, refl, ap, sym, ◌∙◌, arith, subst, drop_at, length-drop}
 use Rattle.std.proofs.lemmas.Bool.Decides.{nat_tests}
 use Rattle.std.proofs.lemmas.Bool.{lt-ltb, le-ltb, le-leb, and_parts, ltb-true, ltb-false, leb-true}
 use Rattle.std.proofs.lemmas.Str.{length-encode}
-use Rattle.std.specs.Prelude.{Option, Some, None, ◌&&◌, nat_lt, nat_le, ◌⊎◌}
+use Rattle.std.specs.Prelude.{Option, Some, None, ◌&&◌, nat_lt, nat_le}
 use Rattle.std.specs.Char.{IsScalar, len_utf8, encode_utf8}
 use Rattle.std.specs.Str.{StartsWithNoChar}
 use Rattle.gd_lexis.specs.declared.glyph.Glyph.{Glyph}
-use Rattle.gd_lexis.specs.declared.glyph.Glyph.TheVariants.{Char, Bad}
-use Rattle.gd_lexis.specs.Chars.{Reads, IsFile, begins_with_mark}
+use Rattle.gd_lexis.specs.Chars.{Reads}
 use Rattle.gd_lexer.specs.Glyphs.{is_scalar, scalar_of, continues, two, three, three_code, four, four_code, decoded, glyph_or, width, glyphs}
 use Rattle.gd_lexer.proofs.GlyphLemmas.{glyphs_cons, width_positive}
 

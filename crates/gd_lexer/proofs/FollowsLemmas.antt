@@ -1,16 +1,15 @@
 -- Laws of spots that follow one another.
-use Rattle.std.proofs.Common.{◌≡◌, ℕ, zero, suc, ◌+◌, ◌-◌, ◌≤◌, ◌<◌, Bool, true, false, cond, List, [], ◌∷◌, length, drop, length-drop, ◌++◌, append_assoc, reverse, refl, ap, sym, ◌∙◌, arith, subst, inl, inr}
-use Rattle.std.proofs.lemmas.Bool.Decides.{nat_tests}
+use Rattle.std.proofs.Common.{◌≡◌, ℕ, ◌+◌, ◌-◌, ◌≤◌, Bool, true, false, cond, List, [], ◌∷◌, length, drop, length-drop, ◌++◌, append_assoc, reverse, refl, ap, sym, ◌∙◌, arith, subst, inl, inr}
 use Rattle.std.proofs.lemmas.List.{reverse-append}
 use Rattle.std.proofs.lemmas.List.Sums.{sum_by-append}
-use Rattle.std.specs.Prelude.{Option, Some, None, ◌⊎◌, ◌==◌, not, count_by}
+use Rattle.std.specs.Prelude.{Some, ◌==◌, not, count_by}
 use Rattle.std.specs.List.{prefix_len}
 use Rattle.gd_syntax.specs.declared.pos.Pos.{Pos}
 use Rattle.gd_lexis.specs.declared.glyph.Glyph.{Glyph}
 use Rattle.gd_lexis.specs.declared.glyph.Glyph.TheVariants.{Char, Bad}
 use Rattle.gd_lexis.specs.Chars.{is_line_feed, place_behind}
 use Rattle.gd_lexer.specs.Glyphs.{decoded, glyph_or, first_glyph, width, glyphs}
-use Rattle.gd_lexer.specs.Cursor.{Spot, advanced, advanced_over, after_glyph, after_char}
+use Rattle.gd_lexer.specs.Cursor.{Spot, advanced, advanced_over, after_glyph}
 use Rattle.gd_lexer.specs.Follows.{Follows, IsAtMost}
 use Rattle.gd_lexer.proofs.GlyphLemmas.{glyphs_cons, width_positive}
 

@@ -1,12 +1,11 @@
 -- Laws of glyphs.
-use Rattle.std.proofs.Common.{◌≡◌, ℕ, zero, suc, ◌+◌, ◌-◌, ◌*◌, ◌≤◌, ◌<◌, true, false, cond, Bool, List, [], ◌∷◌, length, drop, refl, ap, sym, ◌∙◌, arith, rules, subst}
-use Rattle.std.proofs.lemmas.Grind.{common_steps}
+use Rattle.std.proofs.Common.{◌≡◌, ℕ, zero, suc, ◌+◌, ◌-◌, ◌*◌, ◌≤◌, ◌<◌, true, false, cond, Bool, List, [], ◌∷◌, length, drop, refl, ap, sym, ◌∙◌, arith, subst}
 use Rattle.std.proofs.lemmas.Bool.Decides.{nat_tests}
-use Rattle.std.specs.Prelude.{Option, Some, None, IfSome, MatchOption, ◌&&◌, nat_lt, nat_le}
+use Rattle.std.specs.Prelude.{Option, Some, None, IfSome, ◌&&◌, nat_lt, nat_le}
 use Rattle.std.specs.Char.{len_utf8}
 use Rattle.gd_lexis.specs.declared.glyph.Glyph.{Glyph}
 use Rattle.gd_lexis.specs.declared.glyph.Glyph.TheVariants.{Char, Bad}
-use Rattle.gd_lexer.specs.Glyphs.{is_scalar, scalar_of, continues, two, three, three_code, four, four_code, decoded, glyph_or, first_glyph, width, glyphs_past, glyphs, after_first, width_of_first}
+use Rattle.gd_lexer.specs.Glyphs.{is_scalar, scalar_of, continues, two, three, three_code, four, four_code, decoded, glyph_or, first_glyph, width, glyphs_past, glyphs}
 
 len_two : (c : ℕ) → c < 0x800 → len_utf8 c ≤ 2
 len_two c h = grind (arith, nat_tests)
@@ -87,3 +86,13 @@ unfolding glyphs
 glyphs_cons b bs =
     let g = glyph_or b (decoded (b ∷ bs)) in
     ap (λ t. g ∷ t) (glyphs_past-drop (width g - 1) bs ∙ ap (λ t. glyphs_past 0 t) (drop-cons (width g) b bs (width_positive g)))
+
+past_few : (n : ℕ) (bs : List ℕ) → length (glyphs_past n bs) ≤ length bs
+past_few n [] = omega arith
+past_few (suc n) (b ∷ bs) = omega (arith, past_few n bs)
+past_few zero (b ∷ bs) = omega (arith, past_few (width (glyph_or b (decoded (b ∷ bs))) - 1) bs)
+
+-- a glyph has at least a byte
+pub glyphs_few : (bs : List ℕ) → length (glyphs bs) ≤ length bs
+unfolding glyphs
+glyphs_few bs = past_few 0 bs

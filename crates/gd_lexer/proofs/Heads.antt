@@ -1,14 +1,13 @@
 -- With which characters tokens begin.
-use Rattle.std.proofs.Common.{◌≡◌, ℕ, zero, suc, ◌+◌, ◌<◌, ◌≤◌, Bool, true, false, cond, List, [], ◌∷◌, ◌++◌, length, slice_index, slice_get, map, refl, ap, sym, ◌∙◌, arith, subst, inl, inr, append_assoc}
+use Rattle.std.proofs.Common.{◌≡◌, ℕ, ◌<◌, ◌≤◌, Bool, true, false, List, [], ◌∷◌, ◌++◌, length, slice_index, map, refl, ap, ◌∙◌, arith, subst, inl, inr, append_assoc}
 use Rattle.std.proofs.lemmas.Bool.Decides.{nat_tests}
-use Rattle.std.proofs.lemmas.Bool.{and_parts, or_cases}
+use Rattle.std.proofs.lemmas.Bool.{and_parts}
 use Rattle.std.proofs.lemmas.List.Sums.{AllPass-from_list_all}
-use Rattle.std.specs.Prelude.{Option, Some, None, ◌||◌, ◌&&◌, ◌==◌, ◌⊎◌, IsTrue, All, not, replicate}
+use Rattle.std.specs.Prelude.{◌||◌, ◌&&◌, ◌==◌, ◌⊎◌, IsTrue, All, not, replicate}
 use Rattle.std.specs.List.{list_all}
-use Rattle.std.specs.Char.{is_ascii_digit, is_ascii_alphabetic, digit_value}
+use Rattle.std.specs.Char.{is_ascii_digit, digit_value}
 use Rattle.unicode_ident.specs.Ident.{is_xid_start, is_xid_continue}
 use Rattle.unicode_ident.proofs.Computing.{unicode_ident}
-use Rattle.unicode_ident.proofs.IdentLemmas.{is_xid_start-ascii}
 use Rattle.gd_syntax.specs.declared.token.TokenKind.{TokenKind}
 use Rattle.gd_syntax.specs.declared.token.TokenKind.TheVariants as kinds
 use Rattle.gd_syntax.specs.declared.token.Keyword.{Keyword}
@@ -16,9 +15,9 @@ use Rattle.gd_syntax.specs.declared.token.Keyword.TheVariants as keywords
 use Rattle.gd_syntax.specs.declared.token.Mark.{Mark}
 use Rattle.gd_syntax.specs.declared.token.Mark.TheVariants as marks
 use Rattle.gd_lexis.specs.declared.glyph.Glyph.{Glyph}
-use Rattle.gd_lexis.specs.declared.glyph.Glyph.TheVariants.{Char, Bad}
+use Rattle.gd_lexis.specs.declared.glyph.Glyph.TheVariants.{Char}
 use Rattle.gd_lexis.specs.Words.{IsName, GoesOn, keyword_text, mark_text}
-use Rattle.gd_lexis.specs.Numbers.{WritesNumber, AreDigits, IsDigit}
+use Rattle.gd_lexis.specs.Numbers.{WritesNumber, AreDigits}
 use Rattle.gd_lexis.specs.Strings.{WritesString, Quote, IsQuote, opening, closing}
 use Rattle.gd_lexis.specs.Pieces.{Writes, BeginsWith}
 use Rattle.gd_lexer.specs.Start.{opens_string}

@@ -1,6 +1,5 @@
 -- The mark that is read is the longest that begins there.
-use Rattle.std.proofs.Common.{◌≡◌, ℕ, zero, suc, ◌+◌, ◌<◌, ◌≤◌, Bool, true, false, cond, List, [], ◌∷◌, ◌++◌, length, drop, slice_index, slice_get, map, refl, ap, sym, ◌∙◌, arith, subst, inl, inr}
-use Rattle.std.proofs.lemmas.Bool.Decides.{nat_tests}
+use Rattle.std.proofs.Common.{◌≡◌, ℕ, ◌≤◌, Bool, true, false, cond, List, [], ◌∷◌, ◌++◌, length, drop, slice_index, slice_get, map, refl, ap, sym, ◌∙◌, arith, subst, inl, inr}
 use Rattle.std.proofs.lemmas.Bool.{or_cases, eqb-true, and_parts}
 use Rattle.std.specs.Prelude.{Option, Some, None, ◌||◌, ◌&&◌, ◌==◌, ◌⊎◌}
 use Rattle.std.specs.Char.{is_ascii_digit}
@@ -15,12 +14,12 @@ use Rattle.gd_lexis.specs.declared.glyph.Glyph.{Glyph}
 use Rattle.gd_lexis.specs.declared.glyph.Glyph.TheVariants.{Char, Bad}
 use Rattle.gd_lexis.specs.Words.{mark_text}
 use Rattle.gd_lexis.specs.Numbers.{IsDigit}
-use Rattle.gd_lexis.specs.Pieces.{Piece, Tok, Writes, BeginsWith, BeginsBy, IsLongest, Stands}
+use Rattle.gd_lexis.specs.Pieces.{Writes, BeginsWith, BeginsBy, IsLongest}
 use Rattle.gd_lexer.specs.Cursor.{sees, is_char}
 use Rattle.gd_lexer.specs.Mark.{mark_at, with_equal, arithmetic, star, bits, angle, single}
 use Rattle.gd_lexer.specs.Start.{opens_string, behind_mark, is_digit}
 use Rattle.gd_lexer.specs.Token.{IsToken}
-use Rattle.gd_lexer.proofs.Heads.{begins_name, is_plain, head_is, HeadIs, mark_not_empty, digit_from}
+use Rattle.gd_lexer.proofs.Heads.{begins_name, head_is, HeadIs, mark_not_empty, digit_from}
 
 -- ---- what is read stands there
 

@@ -1,7 +1,10 @@
 -- Steps over the characters of a name.
 use Rattle.std.proofs.Common.{◌≡◌, ℕ, Bool, true, false, cond, List, [], ◌∷◌, ◌++◌, drop, slice_get, refl, ap, sym, ◌∙◌}
 use Rattle.std.specs.Prelude.{Option, Some, None}
-use Rattle.unicode_ident.specs.Ident.{is_xid_continue}
+use Rattle.std.specs.Prelude.{◌<◌, ◌||◌, ◌==◌}
+use Rattle.std.specs.Char.{is_ascii_alphabetic, is_ascii_alphanumeric}
+use Rattle.unicode_ident.specs.Ident.{is_xid_start, is_xid_continue}
+use Rattle.unicode_ident.proofs.IdentLemmas.{is_xid_start-ascii, is_xid_continue-ascii}
 use Rattle.gd_lexis.specs.declared.glyph.Glyph.{Glyph}
 use Rattle.gd_lexis.specs.declared.glyph.Glyph.TheVariants.{Char, Bad}
 use Rattle.gd_lexer.specs.Name.{next_in_name, name_behind, after_name}
@@ -38,3 +41,9 @@ unfolding after_name
 after_name_end [] e = refl
 after_name_end (Bad b ∷ gs) e = refl
 after_name_end (Char d ∷ gs) e = rw (none_next (is_xid_continue d) d e) refl
+
+pub ascii_continues : (c : ℕ) → c < 128 → is_xid_continue c ≡ (is_ascii_alphanumeric c || (c == 95))
+ascii_continues c h = is_xid_continue-ascii c h
+
+pub ascii_begins : (c : ℕ) → c < 128 → (is_ascii_alphabetic c || (c == 95)) ≡ (is_xid_start c || (c == 95))
+ascii_begins c h = ap (λ b. b || (c == 95)) (sym (is_xid_start-ascii c h))

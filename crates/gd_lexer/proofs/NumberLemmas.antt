@@ -1,14 +1,11 @@
 -- Steps over the digits of a number.
-use Rattle.std.proofs.Common.{◌≡◌, ℕ, Bool, true, false, cond, List, [], ◌∷◌, ◌++◌, drop, slice_get, refl, ap, sym, ◌∙◌}
-use Rattle.std.proofs.Common.{arith, ◌≤◌, ◌-◌, length, ◌<◌}
-use Rattle.std.proofs.lemmas.Bool.{and_parts}
-use Rattle.std.specs.Prelude.{Option, Some, None, ◌&&◌}
+use Rattle.std.proofs.Common.{◌≡◌, ℕ, Bool, true, List, [], ◌∷◌, drop, slice_get, refl}
+use Rattle.std.proofs.Common.{arith, ◌≤◌, ◌-◌, length}
+use Rattle.std.specs.Prelude.{Option, Some, None}
 use Rattle.gd_lexis.specs.declared.glyph.Glyph.{Glyph}
-use Rattle.gd_lexis.specs.declared.glyph.Glyph.TheVariants.{Char, Bad}
 use Rattle.gd_lexer.specs.declared.number.Part.{Part}
 use Rattle.gd_lexer.specs.declared.number.Base.{Base}
 use Rattle.gd_lexer.specs.declared.number.Base.TheVariants.{Binary, Decimal, Hexadecimal}
-use Rattle.gd_lexer.specs.Cursor.{sees}
 use Rattle.gd_lexer.specs.Number.{radix, digit_at, is_there, part_at, part_by, extended, value_behind, after_digits, base_at, after_prefix, after_number}
 
 pub value_more : (gs : List Glyph) (v : Option ℕ) (r : ℕ) (p : Part) → Some p ≡ part_at r gs → value_behind v r gs ≡ value_behind (extended v r p) r (drop 1 gs)

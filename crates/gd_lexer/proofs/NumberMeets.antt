@@ -1,10 +1,10 @@
 -- The number that is read is the longest that begins there, with its value.
-use Rattle.std.proofs.Common.{◌≡◌, ℕ, zero, suc, ◌+◌, ◌*◌, ◌^◌, ◌<◌, ◌≤◌, Bool, true, false, cond, List, [], ◌∷◌, ◌++◌, length, drop, slice_index, slice_get, map, refl, ap, sym, ◌∙◌, arith, subst, inl, inr}
+use Rattle.std.proofs.Common.{◌≡◌, ℕ, ◌+◌, ◌*◌, ◌^◌, ◌<◌, ◌≤◌, Bool, true, false, cond, List, [], ◌∷◌, ◌++◌, length, drop, slice_get, map, refl, ap, sym, ◌∙◌, arith, subst, inl, inr}
 use Rattle.std.proofs.lemmas.Bool.Decides.{nat_tests}
-use Rattle.std.proofs.lemmas.Bool.{or_cases, eqb-true, and_parts, ltb-true, ltb-false, lt-ltb, le-ltb, eq-eqb}
+use Rattle.std.proofs.lemmas.Bool.{and_parts, ltb-true, ltb-false, lt-ltb, le-ltb, eq-eqb, ne_eqb, cases_order}
 use Rattle.std.specs.Prelude.{Option, Some, None, Result, Ok, Err, ℤ, pos, ◌||◌, ◌&&◌, ◌==◌, ◌⊎◌, fold, nat_lt, codes}
 use Rattle.std.specs.Char.{is_ascii_digit, digit_value}
-use Rattle.unicode_ident.specs.Ident.{is_xid_start, is_xid_continue}
+use Rattle.unicode_ident.specs.Ident.{is_xid_continue}
 use Rattle.gd_syntax.specs.declared.token.TokenKind.{TokenKind}
 use Rattle.gd_syntax.specs.declared.token.TokenKind.TheVariants as kinds
 use Rattle.gd_model.specs.declared.rule.Rule.{Rule}
@@ -13,19 +13,24 @@ use Rattle.gd_lexis.specs.declared.glyph.Glyph.{Glyph}
 use Rattle.gd_lexis.specs.declared.glyph.Glyph.TheVariants.{Char, Bad}
 use Rattle.gd_lexis.specs.Words.{GoesOn}
 use Rattle.gd_lexis.specs.Numbers.{IsDigit, AreDigits, number_of, WritesIn, WritesDecimal, WritesNumber}
-use Rattle.gd_lexis.specs.Pieces.{Writes, BeginsWith, BeginsBy, IsLongest, IsClear}
+use Rattle.gd_lexis.specs.Pieces.{Writes, BeginsWith, BeginsBy, IsLongest}
 use Rattle.gd_lexis.specs.Faults.{IsNumber}
+use Rattle.gd_lexis.specs.Words.{IsFloatName}
+use Rattle.gd_lexis.specs.Pieces.{Piece}
+use Rattle.gd_lexis.proofs.Lists.{same_chars}
+use Rattle.gd_lexis.proofs.Sites.{Next, number_code, float_begins}
+use Rattle.gd_lexis.proofs.Least.{same_code}
 use Rattle.gd_lexer.specs.declared.number.Base.{Base}
 use Rattle.gd_lexer.specs.declared.number.Base.TheVariants.{Binary, Decimal, Hexadecimal}
 use Rattle.gd_lexer.specs.declared.number.Part.{Part}
 use Rattle.gd_lexer.specs.declared.number.Part.TheVariants.{Digit, Bar}
 use Rattle.gd_lexer.specs.declared.lexer.Start.TheVariants as starts
-use Rattle.gd_lexer.specs.Cursor.{sees, is_char}
+use Rattle.gd_lexer.specs.Cursor.{sees}
 use Rattle.gd_lexer.specs.Name.{next_in_name}
-use Rattle.gd_lexer.specs.Number.{radix, digit_at, is_there, appended, part_by, part_at, extended, value_behind, after_digits, base_at, after_prefix, has_exponent, goes_on_as_float, is_decimal, checked, number_in, number_at, after_number}
-use Rattle.gd_lexer.specs.Start.{opens_string, start_at, start_by}
-use Rattle.gd_lexer.specs.Token.{IsToken, IsBrokenAt}
-use Rattle.gd_lexer.proofs.Heads.{begins_name, is_plain, head_is, HeadIs}
+use Rattle.gd_lexer.specs.Number.{radix, digit_at, is_there, part_by, part_at, extended, value_behind, after_digits, base_at, after_prefix, has_exponent, goes_on_as_float, is_decimal, checked, number_at, after_number}
+use Rattle.gd_lexer.specs.Start.{start_at}
+use Rattle.gd_lexer.specs.Token.{IsToken, IsBrokenAt, IsUnbrokenAt, IsLeastAt}
+use Rattle.gd_lexer.proofs.Heads.{head_is, HeadIs}
 use Rattle.gd_lexer.proofs.NameMeets.{beyond, not_digit}
 use Rattle.gd_lexer.proofs.MarkMeets.{char_is, head_seen}
 use Rattle.gd_lexer.proofs.StartsLemmas.{when_number, digit_there}
@@ -450,7 +455,7 @@ one_number Binary text v w a (inr (inr h)) = one_text 2 w v (codes "0b") text (o
 
 abbrev pub MeetsNumber : Result ℤ Rule → List Glyph → List Glyph → Type 0
 MeetsNumber (Ok n) gs rest = IsToken (kinds.Number n) gs rest
-MeetsNumber (Err rule) gs rest = IsBrokenAt rule gs
+MeetsNumber (Err rule) gs rest = IsBrokenAt rule gs × IsLeastAt rule gs
 
 stops_here : (rest : List Glyph) → is_there (next_in_name (slice_get rest 0)) ≡ false → BeginsBy GoesOn rest → ⊥
 stops_here [] e k = let f = k.2.1 in cc
@@ -480,7 +485,7 @@ FloatBehind rest = BeginsWith (46 ∷ []) rest ⊎ ((e : ℕ) × (sign : List �
 front_seen : (gs : List Glyph) (c : ℕ) → sees c gs 0 ≡ true → gs ≡ Char c ∷ drop 1 gs
 front_seen gs c e = head_seen gs (Char c) (char_is (slice_get gs 0) c e)
 
-digit_here : (o : Option Glyph) → is_there (digit_at 10 o) ≡ true → (d : ℕ) × ((o ≡ Some (Char d)) × IsDigit 10 d)
+pub digit_here : (o : Option Glyph) → is_there (digit_at 10 o) ≡ true → (d : ℕ) × ((o ≡ Some (Char d)) × IsDigit 10 d)
 digit_here o e = let found = is_there_some (digit_at 10 o) e in let d = digit_of 10 o found.0 found.1 in (d.0, (d.1.0, d.1.1))
 
 signed : (e s : ℕ) (hs : List Glyph) → ((e ≡ 101) ⊎ (e ≡ 69)) → ((s ≡ 43) ⊎ (s ≡ 45)) → hs ≡ Char s ∷ drop 1 hs → is_there (digit_at 10 (slice_get hs 1)) ≡ true → FloatBehind (Char e ∷ hs)
@@ -550,19 +555,93 @@ when_float b text v gs rest r e =
     let p = and_parts (is_decimal b) (goes_on_as_float rest) e in
     λ before. (refl, inl (text, v, rest, is_number b text v gs rest r, decimal_only b text v p.0 r.writes, r.whole, float_behind rest p.1))
 
+-- the number that is read is the only one that is the longest
+same_number : (b : Base) (text : List ℕ) (v : ℕ) (gs rest : List Glyph) (other : List ℕ) (w : ℕ) (more : List Glyph) → IsReadNumber b text v gs rest → IsNumber other w gs → gs ≡ map Char other ++ more
+    → (text ≡ other) × (rest ≡ more)
+same_number b text v gs rest other w more r n e = by_order (cases_order (length text) (length other))
+  where
+    by_order : (length text ≡ length other) ⊎ ((length text < length other) ⊎ (length other < length text)) → (text ≡ other) × (rest ≡ more)
+    by_order (inl same) = same_chars text other rest more same (sym r.whole ∙ e)
+    by_order (inr (inl less)) = absurd (r.longest other (kinds.Number (pos w)) less n.0 (w, n.1, refl))
+    by_order (inr (inr less)) = absurd (n.2 text (kinds.Number (pos v)) less (rest, r.whole) (v, writes_in b text v r.writes, refl))
+
+-- a float goes on so, and is seen
+digit_there_at : (d : ℕ) → IsDigit 10 d → is_there (digit_at 10 (Some (Char d))) ≡ true
+digit_there_at d h = ap is_there (digit_known 10 d h)
+
+no_sign : (d s : ℕ) → IsDigit 10 d → 10 ≤ digit_value s → (d == s) ≡ false
+no_sign d s h high = ne_eqb d s (λ e. let same : digit_value d ≡ digit_value s = ap digit_value e in omega arith)
+
+has_digit : (x d : ℕ) (more : List Glyph) → IsDigit 10 d → has_exponent (Char x ∷ Char d ∷ more) ≡ true
+has_digit x d more h =
+    ap (λ t. cond (t || (d == 45)) (is_there (digit_at 10 (slice_get more 0))) (is_there (digit_at 10 (Some (Char d))))) (no_sign d 43 h (omega arith))
+    ∙ ap (λ t. cond t (is_there (digit_at 10 (slice_get more 0))) (is_there (digit_at 10 (Some (Char d))))) (no_sign d 45 h (omega arith))
+    ∙ digit_there_at d h
+
+exponent_seen : (e : ℕ) (tail : List Glyph) → ((e ≡ 101) ⊎ (e ≡ 69)) → has_exponent (Char e ∷ tail) ≡ true → goes_on_as_float (Char e ∷ tail) ≡ true
+exponent_seen e tail (inl m) h =
+    let P : ℕ → Type 0 = λ x. has_exponent (Char x ∷ tail) ≡ true → goes_on_as_float (Char x ∷ tail) ≡ true in
+    subst P (sym m) (λ k. k) h
+exponent_seen e tail (inr m) h =
+    let P : ℕ → Type 0 = λ x. has_exponent (Char x ∷ tail) ≡ true → goes_on_as_float (Char x ∷ tail) ≡ true in
+    subst P (sym m) (λ k. k) h
+
+signed_seen : (e d : ℕ) (sign : List ℕ) (more : List Glyph) → IsDigit 10 d → ((sign ≡ []) ⊎ ((sign ≡ 43 ∷ []) ⊎ (sign ≡ 45 ∷ []))) → has_exponent (map Char (e ∷ sign ++ d ∷ []) ++ more) ≡ true
+signed_seen e d sign more h (inl k) = let P : List ℕ → Type 0 = λ t. has_exponent (map Char (e ∷ t ++ d ∷ []) ++ more) ≡ true in subst P (sym k) (has_digit e d more h)
+signed_seen e d sign more h (inr (inl k)) = let P : List ℕ → Type 0 = λ t. has_exponent (map Char (e ∷ t ++ d ∷ []) ++ more) ≡ true in subst P (sym k) (digit_there_at d h)
+signed_seen e d sign more h (inr (inr k)) = let P : List ℕ → Type 0 = λ t. has_exponent (map Char (e ∷ t ++ d ∷ []) ++ more) ≡ true in subst P (sym k) (digit_there_at d h)
+
+float_seen : (rest : List Glyph) → FloatBehind rest → goes_on_as_float rest ≡ true
+float_seen rest (inl k) = ap goes_on_as_float k.1
+float_seen rest (inr k) =
+    let tail : List Glyph = map Char (k.1 ++ k.2 ∷ []) ++ k.6.0 in
+    ap goes_on_as_float k.6.1 ∙ exponent_seen k.0 tail k.3 (signed_seen k.0 k.2 k.1 k.6.0 k.5 k.4)
+
+no_behind : (b : Base) (text : List ℕ) (v w : ℕ) (rest : List Glyph) → WritesIn (radix b) (prefix_of b) text v → (is_decimal b && goes_on_as_float rest) ≡ false → WritesDecimal text w → FloatBehind rest → ⊥
+no_behind Decimal text v w rest a e h k = let f = float_seen rest k in cc
+no_behind Hexadecimal text v w rest a e h k = no_both 16 120 text w v (omega arith) (omega arith) h a
+no_behind Binary text v w rest a e h k = no_both 2 98 text w v (omega arith) (omega arith) h a
+
+no_float : (b : Base) (text : List ℕ) (v : ℕ) (gs rest : List Glyph) → IsReadNumber b text v gs rest → (is_decimal b && goes_on_as_float rest) ≡ false → IsUnbrokenAt broken.Float gs
+no_float b text v gs rest r e before (none, inl k) =
+    let same = same_number b text v gs rest k.0 k.1 k.2 r k.3 k.5 in
+    let P : List ℕ → Type 0 = λ t. WritesDecimal t k.1 in
+    no_behind b text v k.1 rest r.writes e (subst P (sym same.0) k.4) (subst FloatBehind (sym same.1) k.6)
+no_float b text v gs rest r e before (none, inr k) =
+    let digit = number_code text v gs (is_number b text v gs rest r) in
+    let other = name_or_dot before gs k in
+    let same = same_code digit.0 other.0 gs digit.1 other.1 in
+    let range : ((48 ≤ digit.0) × (digit.0 ≤ 57)) = digit.2 in
+    omega (arith, other.2)
+  where
+    name_or_dot : (before : List Piece) (gs : List Glyph) → ((d : ℕ) × IsDigit 10 d × BeginsWith (46 ∷ d ∷ []) gs) ⊎ ((name : List ℕ) × IsFloatName name × BeginsWith name gs × IsLongest name gs)
+        → (c : ℕ) × Next c gs × ((c ≡ 46) ⊎ ((65 ≤ c) × (c ≤ 90)))
+    name_or_dot before gs (inl k) = (46, (Char k.0 ∷ k.2.0, k.2.1), inl refl)
+    name_or_dot before gs (inr k) = let n = float_begins k.0 k.1 in (n.0, (map Char n.1 ++ k.2.0, k.2.1 ∙ ap (λ t. map Char t ++ k.2.0) n.2), inr n.3)
+
+no_large : (b : Base) (text : List ℕ) (v : ℕ) (gs rest : List Glyph) → IsReadNumber b text v gs rest → v < 2 ^ 63 → IsUnbrokenAt broken.IntegerTooLarge gs
+no_large b text v gs rest r small before (none, k) =
+    let same = same_number b text v gs rest k.0 k.1 k.2.0.0 r k.2 k.2.0.1 in
+    let P : List ℕ → Type 0 = λ t. WritesNumber t k.1 in
+    let value : k.1 ≡ v = one_number b text v k.1 r.writes (subst P (sym same.0) k.2.1) in
+    omega (arith, k.3)
+
 by_value : (b : Base) (text : List ℕ) (v : ℕ) (gs rest : List Glyph) (float : Bool) (o : Option ℕ) → IsReadNumber b text v gs rest → (is_decimal b && goes_on_as_float rest) ≡ float → o ≡ limited v
     → MeetsNumber (checked float o rest) gs rest
 unfolding limited
-by_value b text v gs rest true o r e f = when_float b text v gs rest r e
+by_value b text v gs rest true o r e f = (when_float b text v gs rest r e, tt)
 by_value b text v gs rest false None r e f = by_size (nat_lt v (2 ^ 63)) refl f
   where
-    by_size : (t : Bool) → nat_lt v (2 ^ 63) ≡ t → None ≡ cond t (Some v) None → IsBrokenAt broken.IntegerTooLarge gs
+    by_size : (t : Bool) → nat_lt v (2 ^ 63) ≡ t → None ≡ cond t (Some v) None → MeetsNumber (Err broken.IntegerTooLarge) gs rest
     by_size true t f = cc
-    by_size false t f = λ before. (refl, (text, v, is_number b text v gs rest r, ltb-false v (2 ^ 63) t))
+    by_size false t f = (λ before. (refl, (text, v, is_number b text v gs rest r, ltb-false v (2 ^ 63) t)), no_float b text v gs rest r e)
 by_value b text v gs rest false (Some n) r e f = by_size (nat_lt v (2 ^ 63)) refl f
   where
     by_end : (g : Bool) → v < 2 ^ 63 → n ≡ v → is_there (next_in_name (slice_get rest 0)) ≡ g → MeetsNumber (cond g (Err broken.BadNumber) (Ok (pos n))) gs rest
-    by_end true small same t = λ before. (refl, (text, v, rest, is_number b text v gs rest r, r.whole, goes_here rest t))
+    by_end true small same t = (
+      (λ before. (refl, (text, v, rest, is_number b text v gs rest r, r.whole, goes_here rest t))),
+      (no_float b text v gs rest r e, no_large b text v gs rest r small),
+    )
     by_end false small same t =
         let P : List Glyph → Type 0 = λ t. IsLongest text t in (
           text,

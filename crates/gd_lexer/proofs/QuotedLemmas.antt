@@ -1,5 +1,5 @@
 -- Steps over a string.
-use Rattle.std.proofs.Common.{◌≡◌, ℕ, Bool, true, false, cond, List, [], ◌∷◌, ◌++◌, slice_get, refl, ap, sym, ◌∙◌, subst}
+use Rattle.std.proofs.Common.{◌≡◌, ℕ, Bool, true, false, cond, slice_get, refl, sym, ◌∙◌, subst}
 use Rattle.std.specs.Prelude.{Option, Some, None, Result, Ok, Err, OnOk, ◌||◌, ◌&&◌}
 use Rattle.gd_syntax.specs.declared.pos.Pos.{Pos}
 use Rattle.gd_lexis.specs.declared.glyph.Glyph.{Glyph}
@@ -7,8 +7,8 @@ use Rattle.gd_lexis.specs.declared.glyph.Glyph.TheVariants.{Char, Bad}
 use Rattle.gd_lexer.specs.declared.quoted.Body.{Body}
 use Rattle.gd_lexer.specs.declared.quoted.Quote.{Quote}
 use Rattle.gd_lexer.specs.Cursor.{Spot, advanced, sees}
-use Rattle.gd_lexer.specs.Escape.{Reading, reading_of, moved, escaped, escaped_by, escaped_glyph, is_line_end, after_line_end, character}
-use Rattle.gd_lexer.specs.Quoted.{Steps, step, end, open_end, closed, step_by, is_backslash}
+use Rattle.gd_lexer.specs.Escape.{Reading, reading_of, escaped, escaped_by, escaped_glyph, is_line_end, after_line_end, character}
+use Rattle.gd_lexer.specs.Quoted.{Steps, step, closed, step_by, is_backslash}
 use Rattle.gd_lexer.proofs.DecodeLemmas.{left}
 
 pub on_ok : {T E : Type 0} (r : Result T E) (P Q : Type 0) → (P → Q) → OnOk r P → OnOk r Q

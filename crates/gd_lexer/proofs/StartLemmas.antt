@@ -1,13 +1,13 @@
 -- The start of a file.
-use Rattle.std.proofs.Common.{◌≡◌, ℕ, Bool, true, false, cond, List, [], ◌∷◌, ◌++◌, length, drop, slice_index, refl, ap, sym, ◌∙◌, arith, subst, inl, inr}
-use Rattle.std.specs.Prelude.{◌==◌, ◌&&◌, ◌⊎◌}
+use Rattle.std.proofs.Common.{◌≡◌, ℕ, Bool, true, false, cond, List, [], ◌∷◌, ◌++◌, drop, slice_index, refl, ap, sym, ◌∙◌, arith, subst, inl, inr}
+use Rattle.std.specs.Prelude.{◌==◌, ◌&&◌}
 use Rattle.std.specs.Char.{encode_utf8}
 use Rattle.std.proofs.lemmas.Bool.{and_parts, eqb-true}
 use Rattle.gd_lexis.specs.declared.glyph.Glyph.{Glyph}
 use Rattle.gd_lexis.specs.declared.glyph.Glyph.TheVariants.{Char, Bad}
-use Rattle.gd_lexis.specs.Chars.{Reads, IsFile, begins_with_mark, place_behind}
+use Rattle.gd_lexis.specs.Chars.{Reads, IsFile, begins_with_mark}
 use Rattle.gd_lexer.specs.Glyphs.{glyphs}
-use Rattle.gd_lexer.specs.Cursor.{Spot, start_of, has_mark, mark_len, IsAt}
+use Rattle.gd_lexer.specs.Cursor.{start_of, has_mark, IsAt}
 use Rattle.gd_lexer.proofs.DecodeLemmas.{glyphs-Reads}
 
 mark_bytes : encode_utf8 0xFEFF ≡ 239 ∷ 187 ∷ 191 ∷ []

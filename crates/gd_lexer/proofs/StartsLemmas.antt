@@ -1,5 +1,5 @@
 -- What a beginning says of the glyphs.
-use Rattle.std.proofs.Common.{◌≡◌, ℕ, ◌<◌, ◌≤◌, Bool, true, false, cond, List, [], ◌∷◌, slice_get, drop, refl, ap, sym, ◌∙◌, arith, subst, inl, inr}
+use Rattle.std.proofs.Common.{◌≡◌, ℕ, ◌<◌, Bool, true, false, cond, List, [], ◌∷◌, slice_get, drop, refl, ap, sym, ◌∙◌, arith, subst, inl, inr}
 use Rattle.std.proofs.lemmas.Bool.Decides.{nat_tests}
 use Rattle.std.proofs.lemmas.Bool.{lt-ltb, eqb-true, and_parts}
 use Rattle.gd_model.specs.declared.rule.Rule.TheVariants.{Float}
@@ -14,8 +14,8 @@ use Rattle.gd_lexer.specs.declared.lexer.Start.{Start}
 use Rattle.gd_lexer.specs.declared.lexer.Start.TheVariants as starts
 use Rattle.gd_lexer.specs.Mark.{mark_at}
 use Rattle.gd_lexer.specs.Number.{digit_at, is_there}
-use Rattle.gd_lexer.specs.Start.{start_at, start_by, start_with, opens_string, is_digit, marked}
-use Rattle.gd_lexer.proofs.DecodeLemmas.{pick, taken}
+use Rattle.gd_lexer.specs.Start.{start_at, start_by, opens_string, is_digit, marked}
+use Rattle.gd_lexer.proofs.DecodeLemmas.{pick}
 
 pub digit_there : (c : ℕ) → is_ascii_digit c ≡ true → is_there (digit_at 10 (Some (Char c))) ≡ true
 digit_there c e = let small : digit_value c < 10 = grind (arith, nat_tests) in there (nat_lt (digit_value c) 10) (lt-ltb (digit_value c) 10 small)

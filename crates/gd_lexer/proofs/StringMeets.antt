@@ -1,7 +1,6 @@
 -- The string that is read is the one that begins there.
-use Rattle.std.proofs.Common.{◌≡◌, ◌≢◌, ℕ, zero, suc, ◌+◌, ◌-◌, ◌<◌, ◌≤◌, Bool, true, false, cond, List, [], ◌∷◌, ◌++◌, length, drop, slice_index, slice_get, map, refl, ap, sym, ◌∙◌, arith, subst, inl, inr, append_assoc, length-append}
-use Rattle.std.proofs.lemmas.Bool.Decides.{nat_tests}
-use Rattle.std.proofs.lemmas.Bool.{or_cases, eqb-true, eqb-false, eq-eqb, ne_eqb, and_parts, and_cases}
+use Rattle.std.proofs.Common.{◌≡◌, ◌≢◌, ℕ, suc, ◌+◌, ◌<◌, ◌≤◌, Bool, true, false, cond, List, [], ◌∷◌, ◌++◌, length, drop, slice_get, map, refl, ap, sym, ◌∙◌, arith, subst, inl, inr, append_assoc, length-append}
+use Rattle.std.proofs.lemmas.Bool.{eqb-true, eqb-false, eq-eqb, and_parts}
 use Rattle.std.proofs.lemmas.List.{append-nil, map-append, append_cancel_left, length-map, nil_from_length}
 use Rattle.std.specs.Prelude.{Option, Some, None, ◌||◌, ◌&&◌, ◌==◌, ◌⊎◌, nat_eq, replicate}
 use Rattle.std.specs.List.{starts_with}
@@ -10,19 +9,19 @@ use Rattle.gd_model.specs.declared.rule.Rule.{Rule}
 use Rattle.gd_model.specs.declared.rule.Rule.TheVariants.{BadEscape, NotUtf8}
 use Rattle.gd_lexis.specs.declared.glyph.Glyph.{Glyph}
 use Rattle.gd_lexis.specs.declared.glyph.Glyph.TheVariants.{Char, Bad}
-use Rattle.gd_lexis.specs.Chars.{place_behind}
 use Rattle.gd_lexis.specs.Strings as strings
 use Rattle.gd_lexis.specs.Strings.{IsQuote, opening, closing, ends_here, begins_line_end, IsEscape, Body, line_end, escape, kept_line_end}
 use Rattle.gd_lexis.specs.Pieces.{BeginsWith}
 use Rattle.gd_lexis.specs.Faults.{Inside, nothing, taken, Parts, no_more, itself, whole_escape}
+use Rattle.gd_lexis.specs.Faultless.{Clean, no_more as clean_end, itself as clean_char, whole_escape as clean_escape, in_raw as clean_raw}
 use Rattle.gd_lexis.specs.Faults as faults
 use Rattle.gd_lexer.specs.declared.quoted.Quote.{Quote}
 use Rattle.gd_lexer.specs.Cursor.{Spot, advanced, sees, is_char}
-use Rattle.gd_lexer.specs.Escape.{Reading, moved, pushed, refused, or_fault, plain, kept, kept_glyph, escaped, escaped_at, escaped_glyph, escaped_by, is_line_end, after_line_end, character}
+use Rattle.gd_lexer.specs.Escape.{Reading, moved, pushed, or_fault, plain, kept, kept_glyph, escaped, escaped_glyph, escaped_by, is_line_end, after_line_end, character}
 use Rattle.gd_lexer.specs.Quoted.{Steps, open_end, end, step, closed, step_by, is_backslash, sees_three, three}
 use Rattle.gd_lexer.proofs.Heads.{closing_cons}
 use Rattle.gd_lexer.proofs.MarkMeets.{char_is, head_seen}
-use Rattle.gd_lexer.proofs.EscapeMeets.{Goes, stay, then_goes, goes_one, rest_of, NoEscape, AnEscape, EscapeBy, character_is, not_mark, char_not, Walks, Left, taken_walks, plain_back}
+use Rattle.gd_lexer.proofs.EscapeMeets.{Goes, stay, then_goes, goes_one, rest_of, EscapeBy, character_is, not_mark, char_not, Walks, Left, taken_walks, plain_back}
 
 abbrev pub count_of : Bool → ℕ
 count_of triple = cond triple 3 1
@@ -96,12 +95,14 @@ record Fine (q : Quote) (r t : Reading) (over : List Glyph) : Type 0 where
   fault : t.fault ≡ r.fault
   body : (cs u : List ℕ) (rest : List Glyph) → t.at.glyphs ≡ map Char cs ++ (map Char (closing (ends_of q)) ++ rest) → Body (ends_of q) cs u → Body (ends_of q) (codes ++ cs) (text ++ u)
   parts : q.is_raw ≡ false → (rest gs : List Glyph) → Parts rest gs → Parts rest (over ++ gs)
+  clean : (gs : List Glyph) → Clean (ends_of q) gs → Clean (ends_of q) (over ++ gs)
 
 -- a byte was wrong
 record WrongByte (q : Quote) (r t : Reading) (over : List Glyph) : Type 0 where
   front : List Glyph
   byte : ℕ
   whole : over ≡ front ++ Bad byte ∷ []
+  clean : Clean (ends_of q) front
   at : Spot
   goes : Goes r.at front at
   fault : t.fault ≡ or_fault r.fault (at.pos, NotUtf8)
@@ -170,7 +171,7 @@ plain_done : (q : Quote) (r : Reading) (g : Glyph) (hs : List Glyph) → IsMark 
 unfolding plain
 plain_done q r (Bad b) hs h e slash going =
     wrong_byte (record { over = Bad b ∷ []; goes = goes_one r.at (Bad b) hs e; walks = plain_walks q r.at (Bad b) hs e (bad_not_char b 92) going; back = λ rest body k x i. plain_back (ends_of q) rest body (Bad b) hs (bad_not_char b 92) going (k ∙ e) x i; shorter = omega arith })
-    (record { front = []; byte = b; whole = refl; at = r.at; goes = stay r.at; fault = refl })
+    (record { front = []; byte = b; whole = refl; clean = clean_end; at = r.at; goes = stay r.at; fault = refl })
 plain_done q r (Char c) hs h e slash going = by_test (c == 13 && sees 10 r.at.glyphs 1) refl
   where
     by_test : (b : Bool) → (c == 13 && sees 10 r.at.glyphs 1) ≡ b → Done q r (cond b (pushed 10 (advanced (advanced r.at)) r) (pushed c (advanced r.at) r))
@@ -205,6 +206,7 @@ plain_done q r (Char c) hs h e slash going = by_test (c == 13 && sees 10 r.at.gl
           fault = refl;
           body = λ cs u rest k b. line_end cs u b;
           parts = λ raw rest gs p. itself (Char 13) (Char 10 ∷ gs) (char_not 13 92 (λ x. unequal 13 92 x refl refl)) (itself (Char 10) gs (char_not 10 92 (λ x. unequal2 10 92 x refl refl)) p);
+          clean = λ gs k. clean_char 13 (Char 10 ∷ gs) (λ x. unequal 13 92 x refl refl) (clean_char 10 gs (λ x. unequal2 10 92 x refl refl) k);
         })
       where
         unequal : (m n : ℕ) → m ≡ n → m ≡ 13 → n ≡ 92 → ⊥
@@ -227,6 +229,7 @@ plain_done q r (Char c) hs h e slash going = by_test (c == 13 && sees 10 r.at.gl
               let tail : hs ≡ map Char cs ++ (map Char (closing (ends_of q)) ++ rest) = sym (rest_of r.at (Char c) hs e) ∙ k in
               strings.plain c cs u (eqb-false c 92 slash) (goes_on_here (ends_of q) c cs hs rest going tail) (no_line_end_here (ends_of q) c cs hs rest (subst P e f) tail) b;
           parts = λ raw rest gs p. itself (Char c) gs other p;
+          clean = λ gs k. clean_char c gs (eqb-false c 92 slash) k;
         })
 
 -- ---- a backslash
@@ -248,7 +251,7 @@ kept_done q r (Bad b ∷ ks) h raw e =
     subst P (sym (ap (λ t. slice_get t 0) tail))
     (wrong_byte
     (record { over = Char 92 ∷ Bad b ∷ []; goes = behind_slash r.at (advanced (advanced r.at)) (Bad b ∷ ks) (Bad b ∷ []) e (goes_one (advanced r.at) (Bad b) ks tail); walks = λ rest gs k i. taken (Bad b) gs i; back = taken_one q h (Bad b) ks r.at e; shorter = omega arith })
-    (record { front = Char 92 ∷ []; byte = b; whole = refl; at = advanced r.at; goes = goes_one r.at (Char 92) (Bad b ∷ ks) e; fault = refl }))
+    (record { front = Char 92 ∷ []; byte = b; whole = refl; clean = clean_raw 92 [] raw clean_end; at = advanced r.at; goes = goes_one r.at (Char 92) (Bad b ∷ ks) e; fault = refl }))
 kept_done q r (Char c ∷ ks) h raw e =
     let tail = slash_goes r (Char c ∷ ks) e in
     let P : Option Glyph → Type 0 = λ o. Done q r (kept_glyph o (pushed 92 (advanced r.at) r)) in
@@ -281,6 +284,7 @@ kept_done q r (Char c ∷ ks) h raw e =
           fault = refl;
           body = λ cs u rest k b. kept_line_end cs u raw b;
           parts = λ no_raw rest gs p. cc;
+          clean = λ gs k. clean_raw 92 (Char 13 ∷ Char 10 ∷ gs) raw (clean_raw 13 (Char 10 ∷ gs) raw (clean_raw 10 gs raw k));
         })
     by_test false f =
         let Q : List Glyph → Type 0 = λ k. (c == 13 && sees 10 k 1) ≡ false in
@@ -296,6 +300,7 @@ kept_done q r (Char c ∷ ks) h raw e =
               let more : ks ≡ map Char cs ++ (map Char (closing (ends_of q)) ++ rest) = sym (rest_of (advanced r.at) (Char c) ks tail) ∙ k in
               strings.kept c cs u raw (no_line_end_here (ends_of q) c cs ks rest (subst Q tail f) more) b;
           parts = λ no_raw rest gs p. cc;
+          clean = λ gs k. clean_raw 92 (Char c ∷ gs) raw (clean_raw c gs raw k);
         })
 
 escape_fine : (q : Quote) (r t : Reading) (e x : List ℕ) (over : List Glyph) → q.is_raw ≡ false → IsEscape e x → over ≡ map Char e → t.chars ≡ r.chars ++ x → t.fault ≡ r.fault → Fine q r t over
@@ -307,6 +312,7 @@ escape_fine q r t e x over raw is whole chars fault = record {
   fault = fault;
   body = λ cs u rest k b. escape e x cs u raw is b;
   parts = λ _ rest gs p. let P : List Glyph → Type 0 = λ w. Parts rest (w ++ gs) in subst P (sym whole) (whole_escape e x gs is p);
+  clean = λ gs k. let P : List Glyph → Type 0 = λ w. Clean (ends_of q) (w ++ gs) in subst P (sym whole) (clean_escape e x gs raw is k);
 }
 
 bad_begins_none : (b : ℕ) (ks : List Glyph) (e x : List ℕ) → IsEscape e x → BeginsWith e (Char 92 ∷ Bad b ∷ ks) → ⊥
@@ -488,7 +494,7 @@ IsWrong q _ front body rest = ⊥
 
 pub data Outcome (q : Quote) (r t : Reading) (body : List Glyph) : Type 0 where
   sound : (codes text : List ℕ) → body ≡ map Char codes → t.chars ≡ r.chars ++ text → t.fault ≡ None → Body (ends_of q) codes text → Outcome q r t body
-  wrong : (front : List Glyph) (at : Spot) (rule : Rule) → Goes r.at front at → t.fault ≡ Some (at.pos, rule) → IsWrong q rule front body t.at.glyphs → Outcome q r t body
+  wrong : (front : List Glyph) (at : Spot) (rule : Rule) → Goes r.at front at → t.fault ≡ Some (at.pos, rule) → IsWrong q rule front body t.at.glyphs → Clean (ends_of q) front → Outcome q r t body
 
 -- what was read up to the string's end
 pub record Read (q : Quote) (r t : Reading) : Type 0 where
@@ -535,7 +541,7 @@ module _ (q : Quote) (mark : IsMark q) (r u t : Reading) (ih : Read q u t) where
   after_fine s f (sound codes text whole chars fault body) =
       sound (f.codes ++ codes) (f.text ++ text) (ap (λ k. k ++ ih.body) f.whole ∙ ap (λ k. map Char f.codes ++ k) whole ∙ sym (map-append Char f.codes codes))
       (chars ∙ ap (λ k. k ++ text) f.chars ∙ append_assoc r.chars f.text text) fault (f.body codes text t.at.glyphs (sym (behind s) ∙ ap (λ k. k ++ (map Char (closing (ends_of q)) ++ t.at.glyphs)) whole) body)
-  after_fine s f (wrong front at rule goes fault w) = wrong (s.over ++ front) at rule (then_goes r.at u.at at s.over front s.goes goes) fault (shifted s f rule front w)
+  after_fine s f (wrong front at rule goes fault w k) = wrong (s.over ++ front) at rule (then_goes r.at u.at at s.over front s.goes goes) fault (shifted s f rule front w) (f.clean front k)
 
   one_more : Done q r u → Read q r t
   one_more (at_end alone none fault) =
@@ -557,7 +563,7 @@ module _ (q : Quote) (mark : IsMark q) (r u t : Reading) (ih : Read q u t) where
     keeps = λ g e. ih.keeps g (w.fault ∙ kept_fault r.fault g (w.at.pos, NotUtf8) e);
     what = λ e.
         wrong w.front w.at NotUtf8 w.goes (ih.keeps (w.at.pos, NotUtf8) (w.fault ∙ new_fault r.fault (w.at.pos, NotUtf8) e))
-        (w.byte, (ih.body, ap (λ k. k ++ ih.body) w.whole ∙ append_assoc w.front (Bad w.byte ∷ []) ih.body));
+        (w.byte, (ih.body, ap (λ k. k ++ ih.body) w.whole ∙ append_assoc w.front (Bad w.byte ∷ []) ih.body)) w.clean;
   }
   one_more (wrong_escape s w) = record {
     body = s.over ++ ih.body;
@@ -574,7 +580,7 @@ module _ (q : Quote) (mark : IsMark q) (r u t : Reading) (ih : Read q u t) where
             omega (arith, length-append s.over ih.body, s.shorter),
             w.none,
           ),
-        );
+        ) clean_end;
   }
 
 pub read_true : (q : Quote) → IsMark q → {r t : Reading} {b : Bool} → Steps q r b t → b ≡ true → Read q r t

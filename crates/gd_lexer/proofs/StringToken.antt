@@ -1,12 +1,12 @@
 -- The string that begins here is the longest token, or the fault that it is.
-use Rattle.std.proofs.Common.{◌≡◌, ◌≢◌, ℕ, zero, suc, ◌+◌, ◌-◌, ◌<◌, ◌≤◌, Bool, true, false, cond, List, [], ◌∷◌, ◌++◌, length, drop, slice_index, slice_get, map, refl, ap, sym, ◌∙◌, arith, subst, inl, inr, append_assoc, length-append}
+use Rattle.std.proofs.Common.{◌≡◌, ◌≢◌, ℕ, ◌≤◌, Bool, true, false, cond, List, [], ◌∷◌, ◌++◌, length, drop, slice_get, map, refl, ap, sym, ◌∙◌, arith, subst, inl, inr, append_assoc, length-append}
 use Rattle.std.proofs.lemmas.Bool.Decides.{nat_tests}
-use Rattle.std.proofs.lemmas.Bool.{or_cases, eqb-true, eqb-false, eq-eqb, ne_eqb, and_parts, and_cases}
-use Rattle.std.proofs.lemmas.List.{append-nil, map-append, append_cancel_left, length-map, length-replicate, nil_from_length}
+use Rattle.std.proofs.lemmas.Bool.{eqb-true, eq-eqb}
+use Rattle.std.proofs.lemmas.List.{map-append, append_cancel_left, length-map, length-replicate}
 use Rattle.std.proofs.lemmas.List.Elements.{All-head}
-use Rattle.std.specs.Prelude.{Option, Some, None, ◌||◌, ◌&&◌, ◌==◌, ◌⊎◌, nat_eq, replicate, All}
+use Rattle.std.specs.Prelude.{Option, Some, None, ◌||◌, ◌&&◌, ◌==◌, ◌⊎◌, nat_eq, replicate}
 use Rattle.std.specs.List.{starts_with}
-use Rattle.std.specs.Char.{is_ascii_digit, digit_value}
+use Rattle.std.specs.Char.{is_ascii_digit}
 use Rattle.unicode_ident.specs.Ident.{is_xid_start, is_xid_continue}
 use Rattle.unicode_ident.proofs.IdentLemmas.{is_xid_start-ascii, is_xid_continue-ascii}
 use Rattle.gd_syntax.specs.declared.pos.Pos.{Pos}
@@ -16,30 +16,30 @@ use Rattle.gd_model.specs.declared.rule.Rule.{Rule}
 use Rattle.gd_model.specs.declared.rule.Rule.TheVariants as broken
 use Rattle.gd_lexis.specs.declared.glyph.Glyph.{Glyph}
 use Rattle.gd_lexis.specs.declared.glyph.Glyph.TheVariants.{Char, Bad}
-use Rattle.gd_lexis.specs.Words.{IsName, GoesOn, keyword_text}
+use Rattle.gd_lexis.specs.Words.{IsName, GoesOn}
 use Rattle.gd_lexis.specs.Strings as strings
 use Rattle.gd_lexis.specs.Strings.{IsQuote, opening, closing, ends_here, begins_line_end, IsEscape, WritesString, Body, line_end, escape, kept, kept_line_end}
-use Rattle.gd_lexis.specs.Pieces.{Piece, Tok, Writes, BeginsWith, IsLongest, IsClear, Stands}
+use Rattle.gd_lexis.specs.Pieces.{Piece, Writes, BeginsWith, IsLongest}
 use Rattle.gd_lexis.specs.Faults.{Inside, nothing, plain, taken, Opens, IsWhole}
 use Rattle.gd_lexer.specs.declared.lexer.Start.TheVariants as starts
 use Rattle.gd_lexer.specs.declared.quoted.Quote.{Quote}
 use Rattle.gd_lexer.specs.Cursor.{Spot, advanced, sees, is_char}
-use Rattle.gd_lexer.specs.Escape.{Reading, moved}
-use Rattle.gd_lexer.specs.Quoted.{Steps, Scans, quote_of, quote_here, opened, at_quote, behind_quote, mark_here, sees_three, three}
+use Rattle.gd_lexer.specs.Escape.{Reading}
+use Rattle.gd_lexer.specs.Quoted.{Steps, quote_of, quote_here, opened, behind_quote, mark_here, sees_three, three}
 use Rattle.gd_lexer.specs.Start.{opens_string, start_at, start_by, is_digit}
 use Rattle.gd_lexer.specs.Mark.{mark_at}
-use Rattle.gd_lexer.specs.Token.{IsToken, IsBrokenAt, IsInner}
-use Rattle.gd_lexis.specs.Chars.{place_behind}
+use Rattle.gd_lexer.specs.Token.{IsToken, IsBrokenAt, IsInner, IsInnerOf}
 use Rattle.gd_lexis.specs.Faults.{Breaks}
+use Rattle.gd_lexis.specs.Faultless.{IsStringFault}
 use Rattle.gd_lexer.specs.declared.stop.Fault.{Fault}
-use Rattle.gd_lexer.specs.Escape.{reading_of, seen_fault}
+use Rattle.gd_lexer.specs.Escape.{seen_fault}
 use Rattle.std.specs.Prelude.{IfSome}
-use Rattle.gd_lexer.proofs.Heads.{begins_name, is_plain, head_is, HeadIs, closing_cons, opening_raw, opening_plain, keyword_IsName}
+use Rattle.gd_lexer.proofs.Heads.{is_plain, head_is, HeadIs, closing_cons, opening_raw, opening_plain, keyword_IsName}
 use Rattle.gd_lexer.proofs.MarkMeets.{char_is, head_seen}
 use Rattle.gd_lexer.proofs.StartsLemmas.{not_marked}
 use Rattle.gd_lexer.proofs.DecodeLemmas.{pick}
-use Rattle.gd_lexer.proofs.EscapeMeets.{Goes, stay, then_goes, goes_one, rest_of, not_mark, char_not, slash_not_mark, taken_walks, then_walks, Forth, letter_walks}
-use Rattle.gd_lexer.proofs.StringMeets.{ends_of, count_of, IsMark, is_quote_of, three_marks, three_goes, closing_of, Outcome, sound, wrong, IsWrong, Read, read_true, read_false}
+use Rattle.gd_lexer.proofs.EscapeMeets.{Goes, then_goes, goes_one, rest_of, not_mark, char_not, slash_not_mark, taken_walks, then_walks, Forth, letter_walks}
+use Rattle.gd_lexer.proofs.StringMeets.{ends_of, count_of, IsMark, is_quote_of, three_marks, three_goes, Outcome, sound, wrong, IsWrong, Read, read_true, read_false}
 
 -- ---- a string has one end
 
@@ -442,7 +442,7 @@ string_no_name (a ∷ b ∷ more) c hs rest h n l e =
         gone false false false false true d e f g m = cc
         gone false false false false false d e f g m = cc
 
-opens_first : (c : ℕ) (gs : List Glyph) → opens_string c gs ≡ true → (c ≡ 34) ⊎ ((c ≡ 39) ⊎ (c ≡ 114))
+pub opens_first : (c : ℕ) (gs : List Glyph) → opens_string c gs ≡ true → (c ≡ 34) ⊎ ((c ≡ 39) ⊎ (c ≡ 114))
 opens_first c gs h = by_tests (c == 34) (c == 39) (c == 114) refl refl refl h
   where
     by_tests : (x y z : Bool) → (c == 34) ≡ x → (c == 39) ≡ y → (c == 114) ≡ z → (c == 34 || c == 39 || (c == 114 && (sees 34 gs 1 || sees 39 gs 1))) ≡ true → (c ≡ 34) ⊎ ((c ≡ 39) ⊎ (c ≡ 114))
@@ -572,7 +572,7 @@ string_token s r t e at none clean steps sound_end =
         joined : (a b c : List ℕ) (gs : List Glyph) → map Char a ++ (map Char b ++ (map Char c ++ gs)) ≡ map Char (a ++ b ++ c) ++ gs
         joined a b c gs =
             sym (append_assoc (map Char a) (map Char b) (map Char c ++ gs)) ∙ ap (λ k. k ++ (map Char c ++ gs)) (sym (map-append Char a b)) ∙ sym (append_assoc (map Char (a ++ b)) (map Char c) gs) ∙ ap (λ k. k ++ gs) (sym (map-append Char (a ++ b) c))
-    by_outcome here o x (wrong front place rule goes fault w) = let f : None ≡ Some (place.pos, rule) = sym sound_end ∙ fault in cc
+    by_outcome here o x (wrong front place rule goes fault w clean_front) = let f : None ≡ Some (place.pos, rule) = sym sound_end ∙ fault in cc
 
 -- ---- a fault inside
 
@@ -590,6 +590,20 @@ broken_inside q broken.NotUtf8 gs body rest front w x before =
 broken_inside q broken.BadEscape gs body rest front w x before = (ends_of q, body, rest, front, x.0, w, x.1.0, refl, x.1.1, x.1.2, x.1.3, x.1.4)
 broken_inside q _ gs body rest front w x before = absurd x
 
+-- the glyph with which it is wrong
+glyph_inside : (q : Quote) (rule : Rule) (gs body rest front : List Glyph) → IsWhole (ends_of q) body rest gs → IsWrong q rule front body rest
+    → (g : Glyph) × (back : List Glyph) × (gs ≡ (map Char (opening (ends_of q)) ++ front) ++ g ∷ back) × IsStringFault rule g
+glyph_inside q broken.NotUtf8 gs body rest front w x =
+    let o = map Char (opening (ends_of q)) in
+    let tail = map Char (closing (ends_of q)) ++ rest in
+    let shown : gs ≡ (o ++ front) ++ Bad x.0 ∷ (x.1.0 ++ tail) =
+    w.1 ∙ ap (λ k. o ++ (k ++ tail)) x.1.1 ∙ ap (λ k. o ++ k) (append_assoc front (Bad x.0 ∷ x.1.0) tail) ∙ sym (append_assoc o front (Bad x.0 ∷ (x.1.0 ++ tail))) in
+    (Bad x.0, x.1.0 ++ tail, shown, (x.0, refl))
+glyph_inside q broken.BadEscape gs body rest front w x =
+    let o = map Char (opening (ends_of q)) in
+    (Char 92, x.0, w.1 ∙ ap (λ k. o ++ k) x.1.1 ∙ sym (append_assoc o front (Char 92 ∷ x.0)), refl)
+glyph_inside q _ gs body rest front w x = absurd x
+
 pub string_inner : (s : Spot) (r t : Reading) (pos : Pos) (rule : Rule) → Some starts.Quoted ≡ start_at s.glyphs → r.at ≡ opened s → r.fault ≡ None → Steps (quote_of s) r true t → t.fault ≡ Some (pos, rule) → IsInner s pos rule
 string_inner s r t pos rule e at clean steps found =
     let o = opened_here s e in
@@ -598,7 +612,7 @@ string_inner s r t pos rule e at clean steps found =
   where
     by_outcome : Opened s → (x : Read (quote_of s) r t) → Outcome (quote_of s) r t x.body → IsInner s pos rule
     by_outcome o x (sound codes text whole chars fault body) = let f : None ≡ Some (pos, rule) = sym fault ∙ found in cc
-    by_outcome o x (wrong front place other goes fault w) =
+    by_outcome o x (wrong front place other goes fault w clean_front) =
         let both : Some (place.pos, other) ≡ Some (pos, rule) = sym fault ∙ found in
         let pair : ◌≡◌ {A = Pos × Rule} (place.pos, other) (pos, rule) = cc in
         let same_pos : place.pos ≡ pos = ap (λ (p : Pos × Rule). p.0) pair in
@@ -606,9 +620,18 @@ string_inner s r t pos rule e at clean steps found =
         let P : Rule → Type 0 = λ k. (before : List Piece) → Breaks k before s.glyphs (map Char (opening (ends_of (quote_of s))) ++ front) in
         let Q : Spot → Type 0 = λ k. Goes k front place in
         let over = then_goes s (opened s) place (map Char (opening (ends_of (quote_of s)))) front o.goes (subst Q at goes) in
+        let whole = is_whole s r t o at x in
+        let seen = glyph_inside (quote_of s) other s.glyphs x.body t.at.glyphs front whole w in
+        let R : Rule → Type 0 = λ k. IsStringFault k seen.0 in
         record {
-          ahead = map Char (opening (ends_of (quote_of s))) ++ front;
-          broken = subst P same_rule (broken_inside (quote_of s) other s.glyphs x.body t.at.glyphs front (is_whole s r t o at x) w);
+          string = record { quote = ends_of (quote_of s); body = x.body; rest = t.at.glyphs; whole = whole };
+          front = front;
+          clean = clean_front;
+          glyph = seen.0;
+          back = seen.1;
+          split = seen.2;
+          wrong = subst R same_rule seen.3;
+          broken = subst P same_rule (broken_inside (quote_of s) other s.glyphs x.body t.at.glyphs front whole w);
           place = λ file before here. sym same_pos ∙ over.place file before here;
         }
 
@@ -616,9 +639,9 @@ seen_none : (o : Option Fault) → o ≡ None → seen_fault o ≡ None
 seen_none o e = ap seen_fault e
 
 -- the same, as the code shows it
-pub quoted_inner : (s : Spot) (r t : Reading) (o : Option Fault) → Some starts.Quoted ≡ start_at s.glyphs → r.at ≡ opened s → r.fault ≡ None → Steps (quote_of s) r true t → t.fault ≡ seen_fault o → IfSome o (λ f. IsInner s f.pos f.rule)
-quoted_inner s r t None e at clean steps found = tt
-quoted_inner s r t (Some f) e at clean steps found = string_inner s r t f.pos f.rule e at clean steps found
+pub quoted_inner : (s : Spot) (r t : Reading) (o : Option Fault) (text : List ℕ) → Some starts.Quoted ≡ start_at s.glyphs → r.at ≡ opened s → r.fault ≡ None → Steps (quote_of s) r true t → t.fault ≡ seen_fault o → IfSome o (IsInnerOf (kinds.Quoted text) s)
+quoted_inner s r t None text e at clean steps found = tt
+quoted_inner s r t (Some f) text e at clean steps found = (tt, string_inner s r t f.pos f.rule e at clean steps found)
 
 pub quoted_token : (s : Spot) (r t : Reading) (o : Option Fault) (text : List ℕ) → Some starts.Quoted ≡ start_at s.glyphs → r.at ≡ opened s → r.chars ≡ [] → r.fault ≡ None → Steps (quote_of s) r true t → t.fault ≡ seen_fault o → text ≡ t.chars → o ≡ None
     → IsToken (kinds.Quoted text) s.glyphs t.at.glyphs

@@ -1,9 +1,9 @@
 -- What a name stands for, by its text.
-use Rattle.std.proofs.Common.{◌≡◌, ℕ, zero, suc, ◌+◌, ◌<◌, ◌≤◌, Bool, true, false, cond, List, [], ◌∷◌, ◌++◌, length, drop, slice_index, refl, ap, sym, ◌∙◌, arith, subst, inl, inr}
+use Rattle.std.proofs.Common.{◌≡◌, ℕ, ◌+◌, ◌<◌, Bool, true, false, cond, List, [], ◌∷◌, length, drop, slice_index, refl, ap, ◌∙◌, arith, inl, inr}
 use Rattle.std.proofs.lemmas.Bool.{and_parts, eqb-true}
 use Rattle.std.proofs.lemmas.List.{drop_more, nil_from_length}
 use Rattle.std.proofs.Common.{length-drop}
-use Rattle.std.specs.Prelude.{◌==◌, ◌&&◌, ◌⊎◌, codes}
+use Rattle.std.specs.Prelude.{◌==◌, codes}
 use Rattle.gd_syntax.specs.declared.token.Keyword.{Keyword}
 use Rattle.gd_syntax.specs.declared.token.Keyword.TheVariants as keywords
 use Rattle.gd_lexis.specs.Words.{keyword_text, IsFloatName}

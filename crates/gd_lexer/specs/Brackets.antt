@@ -1,5 +1,5 @@
 -- The items of open brackets, and when a token is refused.
-use Rattle.std.specs.Prelude.{◌≡◌, ℕ, ◌<◌, ◌≤◌, Bool, true, false, List, [], ◌∷◌, reverse, length, slice_index}
+use Rattle.std.specs.Prelude.{◌≡◌, ℕ, ◌<◌, ◌≤◌, Bool, true, false, List, [], ◌∷◌, if◌then◌else◌, reverse, length, slice_index}
 use Rattle.gd_syntax.specs.declared.pos.Pos.{Pos}
 use Rattle.gd_syntax.specs.declared.token.TokenKind.{TokenKind}
 use Rattle.gd_syntax.specs.declared.token.TokenKind.TheVariants as kinds
@@ -43,11 +43,22 @@ items_by Closing items = counted (closed items)
 abbrev pub items_after : TokenKind → List ℕ → List ℕ
 items_after kind items = items_behind items (Tok kind [])
 
+-- the items behind the end of a line that has a token or not
+abbrev pub ended_if : Bool → List ℕ → List ℕ
+ended_if b items = if b then ended items else items
+
+-- a token of this role has room
+abbrev pub FitsBy : Role → List ℕ → Type 0
+FitsBy Part items = slice_index items 0 < 100
+FitsBy Separator items = Unit {0}
+FitsBy Opening items = (length items ≤ 32) × (slice_index items 0 < 100)
+FitsBy Closing items = slice_index (closed items) 0 < 100
+
 -- a token of this role is refused by the rule
 abbrev pub RefusedBy : Role → List ℕ → Rule → Type 0
 RefusedBy Opening items BracketsTooDeep = 32 < length items
 RefusedBy Part items ItemTooLong = 100 ≤ slice_index items 0
-RefusedBy Opening items ItemTooLong = 100 ≤ slice_index items 0
+RefusedBy Opening items ItemTooLong = (length items ≤ 32) × (100 ≤ slice_index items 0)
 RefusedBy Closing items ItemTooLong = 100 ≤ slice_index (closed items) 0
 RefusedBy role items rule = ⊥
 

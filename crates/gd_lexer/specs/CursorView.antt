@@ -1,5 +1,5 @@
 -- How a cursor keeps its spot.
-use Rattle.std.specs.Prelude.{ℕ, ◌+◌, ◌≤◌, length}
+use Rattle.std.specs.Prelude.{◌+◌, ◌≤◌, length}
 use Rattle.gd_lexer.specs.declared.cursor.Cursor.TheInside.{Inside}
 use Rattle.gd_lexer.specs.Glyphs.{glyphs}
 use Rattle.gd_lexer.specs.Cursor.{Spot}

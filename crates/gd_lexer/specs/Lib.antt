@@ -9,7 +9,6 @@ pub mod LexFaults
 pub mod Found
 pub mod FoundView
 pub mod Lines
-pub mod Sound
 pub mod Stops
 pub mod Escape
 pub mod Quoted
@@ -19,3 +18,11 @@ pub mod Start
 pub mod Token
 pub mod Brackets
 pub mod Cut
+pub mod Begun
+pub mod Blanks
+pub mod Laid
+pub mod PutOff
+pub mod FirstFaults
+pub mod Opening
+pub mod Sound
+pub mod Spelled

@@ -1,5 +1,5 @@
 -- Whole numbers.
-use Rattle.std.specs.Prelude.{ℕ, ◌+◌, ◌*◌, ◌^◌, ◌==◌, ◌&&◌, ◌||◌, nat_lt, not, Bool, true, false, if◌then◌else◌, List, [], ◌∷◌, slice_get, drop, Option, Some, None, Result, Ok, Err, ℤ, pos}
+use Rattle.std.specs.Prelude.{ℕ, ◌+◌, ◌*◌, ◌^◌, ◌&&◌, ◌||◌, nat_lt, Bool, true, false, if◌then◌else◌, List, [], ◌∷◌, slice_get, drop, Option, Some, None, Result, Ok, Err, ℤ, pos}
 use Rattle.std.specs.Char.{digit_value}
 use Rattle.gd_model.specs.declared.rule.Rule.{Rule}
 use Rattle.gd_model.specs.declared.rule.Rule.TheVariants.{Float, IntegerTooLarge, BadNumber}

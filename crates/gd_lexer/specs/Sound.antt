@@ -3,6 +3,7 @@ use Rattle.std.specs.Prelude.{◌≡◌, ℕ, ◌+◌, ◌*◌, ◌≤◌, Bool,
 use Rattle.gd_syntax.specs.declared.pos.Pos.{Pos}
 use Rattle.gd_lexer.specs.declared.lexer.Lexer.{Lexer}
 use Rattle.gd_lexer.specs.Follows.{IsAtMost}
+use Rattle.gd_lexer.specs.Laid.{IsKept}
 
 abbrev pub count_of_line : Bool → ℕ
 count_of_line is_open = if is_open then 1 else 0
@@ -24,3 +25,4 @@ pub record IsSound (l : Lexer) : Type 0 where
   pub order : IsAtMost l.found.last l.cursor.pos
   pub file : l.found.last.file ≡ l.cursor.pos.file
   pub few : load l ≤ 4 * l.cursor.offset
+  pub kept : IsKept l

@@ -1,5 +1,5 @@
 -- What a name stands for.
-use Rattle.std.specs.Prelude.{◌≡◌, ◌≢◌, ℕ, ◌+◌, ◌==◌, ◌&&◌, Bool, true, false, if◌then◌else◌, List, [], ◌∷◌, slice_index, length, codes}
+use Rattle.std.specs.Prelude.{ℕ, ◌+◌, ◌==◌, ◌&&◌, Bool, true, if◌then◌else◌, List, [], ◌∷◌, slice_index, length, codes}
 use Rattle.gd_syntax.specs.declared.token.Keyword.TheVariants as keywords
 use Rattle.gd_lexer.specs.declared.word.Word.{Word}
 use Rattle.gd_lexer.specs.declared.word.Word.TheVariants as words

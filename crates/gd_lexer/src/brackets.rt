@@ -146,7 +146,7 @@ impl Brackets {
     fn open(&mut self, pos: Pos) -> Result<(), Stop>
         requires line { 1 ≤ pos.line }
         requires column { 1 ≤ pos.column }
-        ensures room { OnOk result ((length self.old.around < 32) × (self.old.item < 100)) }
+        ensures room { OnOk result (spec.FitsBy Role.Opening (spec.items_of self.old)) }
         ensures around { OnOk result ((self.new.around ≡ self.old.around ++ (self.old.item + 1) ∷ []) × (self.new.item ≡ 0)) }
         ensures items { OnOk result (spec.items_of self.new ≡ spec.items_by Role.Opening (spec.items_of self.old)) }
         ensures refused { IfErr result (spec.IsRefusal pos Role.Opening (spec.items_of self.old)) }
@@ -165,6 +165,7 @@ impl Brackets {
         requires line { 1 ≤ pos.line }
         requires column { 1 ≤ pos.column }
         ensures items { OnOk result (spec.items_of self.new ≡ spec.items_by Role.Closing (spec.items_of self.old)) }
+        ensures room { OnOk result (spec.FitsBy Role.Closing (spec.items_of self.old)) }
         ensures refused { IfErr result (spec.IsRefusal pos Role.Closing (spec.items_of self.old)) }
     {
         self.leave();
@@ -186,6 +187,7 @@ impl Brackets {
         requires line { 1 ≤ pos.line }
         requires column { 1 ≤ pos.column }
         ensures items { OnOk result (spec.items_of self.new ≡ spec.items_after kind.now (spec.items_of self.old)) }
+        ensures room { OnOk result (spec.FitsBy (spec.role_of kind.now) (spec.items_of self.old)) }
         ensures refused { IfErr result (spec.IsRefusal pos (spec.role_of kind.now) (spec.items_of self.old)) }
     {
         self.take_by(role_of(kind), pos)
@@ -196,6 +198,7 @@ impl Brackets {
         requires line { 1 ≤ pos.line }
         requires column { 1 ≤ pos.column }
         ensures items { OnOk result (spec.items_of self.new ≡ spec.items_by role (spec.items_of self.old)) }
+        ensures room { OnOk result (spec.FitsBy role (spec.items_of self.old)) }
         ensures refused { IfErr result (spec.IsRefusal pos role (spec.items_of self.old)) }
     {
         match role {

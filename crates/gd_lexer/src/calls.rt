@@ -1,8 +1,9 @@
 //! The calls of the lexer.
 ghost use Rattle.std.specs.Prelude.{◌≡◌, ◌+◌, ◌*◌, ◌≤◌, length, IfOk, IfErr};
-ghost use Rattle.gd_lexer.specs.Cut.{AreWritten};
+ghost use Rattle.gd_lexis.specs.Lexes.{Lexes};
 ghost use Rattle.gd_lexer.specs.Found.{AreWhole};
-ghost use Rattle.gd_lexer.specs.LexFaults.{IsLexicalFault};
+ghost use Rattle.gd_lexer.specs.Spelled.{tokens_of};
+ghost use Rattle.gd_lexer.specs.LexFaults.{IsLexicalFault, IsFirstFault, AnswersStop};
 
 use crate::fault::LexFault;
 use crate::found::{Span, Whole};
@@ -21,10 +22,11 @@ pub fn lex(alloc: Global, file: u32, bytes: &[u8]) -> Result<Vec<Token>, LexFaul
     // The places rise, the file is this one, and the last token is the only End.
     ensures whole { IfOk result (λ v. AreWhole file v.items) }
     ensures count { IfOk result (λ v. length v.items ≤ 4 * length bytes.now + 1) }
-    // The file is cut into pieces, each the longest that stands there, and the tokens but for those that the layout
-    // makes are those of the pieces, in order, each at its place.
-    ensures written { IfOk result (λ v. AreWritten file bytes.now v.items) }
-    // A fault has a rule from L01 to L12.
+    // The tokens are exactly those of the definition.
+    ensures tokens { IfOk result (λ v. Lexes file bytes.now v.items) }
+    // A fault is exactly the first of the definition.
+    ensures first { IfErr result (IsFirstFault file bytes.now) }
+    // It has a rule from L01 to L12.
     ensures fault { IfErr result IsLexicalFault }
 {
     let whole = read(alloc, file, bytes)?;
@@ -37,6 +39,8 @@ pub fn lex(alloc: Global, file: u32, bytes: &[u8]) -> Result<Vec<Token>, LexFaul
 /// `Fault` comes as from `lex`.
 pub fn lexemes(alloc: Global, bytes: &[u8]) -> Result<Lexemes, LexFault>
     requires { length bytes.now ≤ 1_048_576 }
+    ensures tokens { IfOk result (λ l. Lexes 0 bytes.now (tokens_of l.tokens)) }
+    ensures first { IfErr result (IsFirstFault 0 bytes.now) }
     ensures fault { IfErr result IsLexicalFault }
 {
     let whole = read(alloc, 0, bytes)?;
@@ -56,7 +60,9 @@ fn read(alloc: Global, file: u32, bytes: &[u8]) -> Result<Whole, LexFault>
     requires { length bytes.now ≤ 1_048_576 }
     ensures whole { IfOk result (λ w. AreWhole file w.tokens.items) }
     ensures count { IfOk result (λ w. length w.tokens.items ≤ 4 * length bytes.now + 1) }
-    ensures written { IfOk result (λ w. AreWritten file bytes.now w.tokens.items) }
+    ensures tokens { IfOk result (λ w. Lexes file bytes.now w.tokens.items) }
+    ensures spanned { IfOk result (λ w. length w.tokens.items ≤ length w.spans.items) }
+    ensures first { IfErr result (IsFirstFault file bytes.now) }
     ensures fault { IfErr result IsLexicalFault }
 {
     match Lexer::new(alloc, file, bytes).run() {
@@ -67,7 +73,8 @@ fn read(alloc: Global, file: u32, bytes: &[u8]) -> Result<Whole, LexFault>
 
 /// The answer where reading stopped.
 fn answer(stop: Stop) -> LexFault
-    ensures { IsLexicalFault result }
+    ensures lexical { IsLexicalFault result }
+    ensures first { AnswersStop stop result }
 {
     match stop {
         Stop::Fault(fault) => fault_answer(fault),
@@ -76,7 +83,8 @@ fn answer(stop: Stop) -> LexFault
 }
 
 fn fault_answer(fault: Fault) -> LexFault
-    ensures { IsLexicalFault result }
+    ensures lexical { IsLexicalFault result }
+    ensures first { AnswersStop (Stop.Fault fault) result }
 {
     LexFault::Fault(fault.pos, fault.rule)
 }
@@ -86,17 +94,23 @@ fn listed(
     tokens: Vec<Token>,
     spans: &[Span],
     comments: &[Span],
-) -> Result<Lexemes, NoMemory> {
+) -> Result<Lexemes, NoMemory>
+    requires { length tokens.items ≤ length spans.now }
+    ensures { IfOk result (λ l. tokens_of l.tokens ≡ tokens.items) }
+{
     Ok(Lexemes {
         tokens: Seq::of(joined(alloc, tokens, spans)?),
         comments: Seq::of(comment_list(alloc, comments)?),
     })
 }
 
-fn joined(alloc: Global, tokens: Vec<Token>, spans: &[Span]) -> Result<Vec<Lexeme>, NoMemory> {
+fn joined(alloc: Global, tokens: Vec<Token>, spans: &[Span]) -> Result<Vec<Lexeme>, NoMemory>
+    requires { length tokens.items ≤ length spans.now }
+    ensures { IfOk result (λ v. tokens_of v.items ≡ tokens.items) }
+{
     let mut lexemes = Vec::with_capacity(alloc, tokens.len())?;
-    for (token, span) in tokens.into_iter().zip(spans) {
-        let Span { start, end } = *span;
+    for token in tokens {
+        let Span { start, end } = spans[lexemes.len()];
         lexemes.push(Lexeme { token, start, end })?;
     }
     Ok(lexemes)

@@ -69,6 +69,7 @@ impl<'a> Cursor<'a> {
         ensures value { result ≡ self.now.pos }
         ensures line { (1 ≤ result.line) × (result.line ≤ self.now.offset + 1) }
         ensures column { (1 ≤ result.column) × (result.column ≤ self.now.offset + 1) }
+        ensures room { self.now.offset + self.now.left ≤ 1_048_576 }
     {
         self.pos
     }
@@ -77,6 +78,7 @@ impl<'a> Cursor<'a> {
     pub fn offset(&self) -> u32
         ensures value { result ≡ self.now.offset }
         ensures room { result + self.now.left ≤ 1_048_576 }
+        ensures few { length self.now.glyphs ≤ self.now.left }
     {
         self.offset
     }
@@ -126,7 +128,28 @@ impl<'a> Cursor<'a> {
     }
 
     /// Goes over the next glyph. At the end nothing happens.
+    #[inline(always)]
     pub fn advance(&mut self)
+        ensures value { self.new ≡ advanced self.old }
+        ensures rest { self.new.glyphs ≡ drop 1 self.old.glyphs }
+        ensures follows { Follows self.old self.new }
+        ensures fewer { length self.new.glyphs ≡ length self.old.glyphs - 1 }
+    {
+        // Most characters are ASCII, so that this part stands where it is called.
+        match self.rest {
+            [byte, ..] if *byte < 0x80 => {
+                self.rest = glyph::behind(self.rest, 1);
+                self.offset += 1;
+                self.pos = after_char(self.pos, char::from(*byte));
+            }
+            _ => self.advance_any(),
+        }
+    }
+
+    /// Goes over the next glyph, which may be any. At the end nothing happens.
+    #[cold]
+    #[inline(never)]
+    fn advance_any(&mut self)
         ensures value { self.new ≡ advanced self.old }
         ensures rest { self.new.glyphs ≡ drop 1 self.old.glyphs }
         ensures follows { Follows self.old self.new }
@@ -181,17 +204,39 @@ fn after(pos: Pos, glyph: Glyph) -> Pos
     requires column { pos.column < 2 ^ 32 - 1 }
     ensures { result ≡ after_glyph glyph pos }
 {
-    let Pos { file, line, column } = pos;
     match glyph {
-        Glyph::Char('\n') => Pos {
-            file,
-            line: line + 1,
+        Glyph::Char(c) => after_char(pos, c),
+        Glyph::Bad(_) => next_column(pos),
+    }
+}
+
+/// The place behind a character.
+#[inline(always)]
+fn after_char(pos: Pos, c: char) -> Pos
+    requires line { pos.line < 2 ^ 32 - 1 }
+    requires column { pos.column < 2 ^ 32 - 1 }
+    ensures { result ≡ spec.after_char c pos }
+{
+    if c == '\n' {
+        Pos {
+            file: pos.file,
+            line: pos.line + 1,
             column: 1,
-        },
-        _ => Pos {
-            file,
-            line,
-            column: column + 1,
-        },
+        }
+    } else {
+        next_column(pos)
+    }
+}
+
+/// The next place in a line.
+#[inline(always)]
+fn next_column(pos: Pos) -> Pos
+    requires column { pos.column < 2 ^ 32 - 1 }
+    ensures { result ≡ record { file = pos.file; line = pos.line; column = pos.column + 1 } }
+{
+    Pos {
+        file: pos.file,
+        line: pos.line,
+        column: pos.column + 1,
     }
 }

@@ -166,7 +166,8 @@ fn line_end(cursor: &mut Cursor) -> bool
 fn take(body: &mut Body, found: Option<char>, pos: Pos) -> Result<(), NoMemory>
     requires line { 1 ≤ pos.line }
     requires column { 1 ≤ pos.column }
-    ensures { OnOk result ((at : Spot) → spec.reading_of at body.new ≡ spec.escaped_by pos found at (spec.reading_of at body.old)) }
+    ensures few { OnOk result (length body.new.chars.items ≤ length body.old.chars.items + 1) }
+    ensures value { OnOk result ((at : Spot) → spec.reading_of at body.new ≡ spec.escaped_by pos found at (spec.reading_of at body.old)) }
 {
     match found {
         Some(c) => body.push(c),
@@ -180,6 +181,8 @@ fn take(body: &mut Body, found: Option<char>, pos: Pos) -> Result<(), NoMemory>
 /// Goes over the escape that begins with the backslash here. A backslash before a line end stands for nothing.
 #[tactic(auto, unfolding(crate::specs::Escape::escaped))]
 pub fn escape(cursor: &mut Cursor, body: &mut Body) -> Result<(), NoMemory>
+    requires { 0 < length cursor.old.glyphs }
+    ensures few { OnOk result (length body.new.chars.items + length cursor.new.glyphs ≤ length body.old.chars.items + length cursor.old.glyphs) }
     ensures value { OnOk result (spec.reading_of cursor.new body.new ≡ spec.escaped (spec.reading_of cursor.old body.old)) }
     ensures follows { Follows cursor.old cursor.new }
     ensures fewer { OnOk result (length cursor.new.glyphs ≤ length cursor.old.glyphs - 1) }

@@ -46,14 +46,14 @@ pub struct Whole {
 }
 
 impl Found {
-    /// Nothing, of the file that starts here.
-    pub fn new(alloc: Global, start: Pos) -> Found
+    /// Nothing, of the file that starts here, with room for so many tokens if there is memory for it.
+    pub fn new(alloc: Global, start: Pos, room: usize) -> Found
         ensures tokens { result.tokens ≡ [] }
         ensures last { result.last ≡ start }
     {
         Found {
-            tokens: Vec::new(alloc),
-            spans: Vec::new(alloc),
+            tokens: with_room(alloc, room),
+            spans: with_room(alloc, room),
             comments: Vec::new(alloc),
             last: start,
         }
@@ -107,6 +107,7 @@ impl Found {
         requires later { IsAtMost self.last pos }
         ensures whole { IfOk result (λ w. AreWhole pos.file w.tokens.items) }
         ensures count { IfOk result (λ w. length w.tokens.items ≡ length self.tokens + 1) }
+        ensures spanned { IfOk result (λ w. length w.tokens.items ≤ length w.spans.items) }
         ensures tokens { IfOk result (λ w. w.tokens.items ≡ self.tokens ++ record { pos = pos; kind = TokenKind.End } ∷ []) }
     {
         let Found {
@@ -125,5 +126,15 @@ impl Found {
             spans,
             comments,
         })
+    }
+}
+
+/// An empty list with room for so many items, or with none where memory does not suffice.
+fn with_room<T: Drop>(alloc: Global, room: usize) -> Vec<T>
+    ensures { result.items ≡ [] }
+{
+    match Vec::with_capacity(alloc, room) {
+        Ok(list) => list,
+        Err(_) => Vec::new(alloc),
     }
 }

@@ -49,6 +49,7 @@ fn first_of_any(bytes: &[u8]) -> Option<Glyph>
 }
 
 /// The bytes behind so many.
+#[inline(always)]
 pub fn behind(bytes: &[u8], width: usize) -> &[u8]
     requires { width ≤ length bytes.now }
     ensures { result.now ≡ drop width bytes.now }

@@ -1,14 +1,21 @@
 //! The steps over a file.
-ghost use Rattle.std.specs.Prelude.{◌≡◌, ◌<◌, ◌≤◌, ◌+◌, ◌-◌, ◌*◌, ◌&&◌, OnOk, List, ℕ, true, IfOk, IfErr, IfSome, IsTrue, Some, None, length, slice_get};
+ghost use Rattle.std.specs.Prelude.{◌≡◌, ◌≢◌, ◌<◌, ◌≤◌, ◌+◌, ◌-◌, ◌*◌, ◌&&◌, ◌++◌, OnOk, List, [], ℕ, true, false, IfOk, IfErr, IfSome, IsTrue, Some, None, length, slice_get};
 ghost use Rattle.gd_lexer.specs.declared.lexer.Start.TheVariants as starts;
-ghost use Rattle.gd_lexer.specs.Token.{IsToken, IsInner, IsFaultOf};
+ghost use Rattle.gd_lexer.specs.Token.{IsToken, IsInnerOf, IsFaultOf};
 ghost use Rattle.gd_lexis.specs.declared.glyph.Glyph.TheVariants.{Char};
 ghost use Rattle.gd_lexer.specs.Start as spec;
 ghost use Rattle.gd_lexis.specs.declared.glyph.Glyph.{Glyph};
 ghost use Rattle.gd_lexis.specs.Chars.{IsFile};
 ghost use Rattle.gd_lexer.specs.Cursor.{sees};
-ghost use Rattle.gd_lexer.specs.Cut.{Holds, Reads, AreWrittenBy, IsCommentText, GoesOn, code_of, written};
+ghost use Rattle.gd_lexer.specs.Cut.{IsCommentText, GoesOn, code_of};
+ghost use Rattle.gd_lexer.specs.Begun.{newline_if};
+ghost use Rattle.gd_lexer.specs.Brackets.{items_of, items_after, ended_if, role_of, FitsBy, IsRefusal};
+ghost use Rattle.gd_lexer.specs.Laid.{Holds, Reads, AreLaid};
+ghost use Rattle.gd_lexer.specs.Opening.{AreClosed, Opens, Deepens, KeepsRest};
+ghost use Rattle.gd_lexer.specs.Lines.{KeepsLine};
+ghost use Rattle.gd_lexis.specs.Lines.{innermost};
 ghost use Rattle.gd_lexer.specs.Lexical.{is_lexical};
+ghost use Rattle.gd_lexer.specs.FirstFaults.{Strays, StopsInText, KeepsTrail, Trails, IsFirstFrom, IsWant, Unopened, Undeepened};
 ghost use Rattle.gd_lexer.specs.Found.{IsNotEnd, AreWhole};
 ghost use Rattle.gd_lexer.specs.Sound.{IsSound, IsPlaced, load, count_of_line};
 ghost use Rattle.gd_lexer.specs.Follows.{Follows};
@@ -21,12 +28,13 @@ use crate::mark::mark;
 use crate::name::{begins_name, read_name};
 use crate::number::number;
 use crate::quoted::{Body, is_quote, quoted};
+use crate::recent::Recent;
 use crate::stop::{Fault, Stop, fault_at};
 use crate::stopped::stop_at;
 use crate::word::{Word, word_of};
 use gd_lexis::Glyph;
-use gd_model::{Rule, impossible};
-use gd_syntax::{Mark, Pos, Text, TextFault, TokenKind};
+use gd_model::Rule;
+use gd_syntax::{Mark, Pos, TokenKind};
 use no_memory::NoMemory;
 use std::alloc::Global;
 
@@ -41,16 +49,19 @@ enum Start {
     Float,
 }
 
+/// Fewer bytes than a token and the blanks before it have on average, so that the list of tokens seldom moves.
+const BYTES_OF_A_TOKEN: usize = 3;
+
 /// A file that is read.
 #[derive(Drop)]
 pub struct Lexer<'a> {
-    alloc: Global,
     cursor: Cursor<'a>,
     lines: Lines,
     brackets: Brackets,
     found: Found,
     /// What is read of the next token.
     body: Body,
+    recent: Recent,
 }
 
 /// A token's kind, and the first fault inside it.
@@ -101,16 +112,17 @@ impl<'a> Lexer<'a> {
         ensures size { result.cursor.offset + result.cursor.left ≡ length bytes.now }
         ensures read { IsFile bytes.now result.cursor.glyphs }
         ensures holds { Holds file result.cursor.glyphs result }
+        ensures trails { Trails file result.cursor.glyphs result }
     {
         let cursor = Cursor::new(file, bytes);
-        let found = Found::new(alloc, cursor.pos());
+        let found = Found::new(alloc, cursor.pos(), bytes.len() / BYTES_OF_A_TOKEN);
         Lexer {
-            alloc,
             cursor,
             lines: Lines::new(alloc),
             brackets: Brackets::new(alloc),
             found,
             body: Body::new(alloc),
+            recent: Recent::new(alloc),
         }
     }
 
@@ -119,7 +131,9 @@ impl<'a> Lexer<'a> {
         requires { IsSound self }
         ensures whole { IfOk result (λ w. AreWhole self.entry.found.last.file w.tokens.items) }
         ensures count { IfOk result (λ w. length w.tokens.items ≤ 4 * (self.entry.cursor.offset + self.entry.cursor.left) + 1) }
-        ensures written { IfOk result (λ w. (file : ℕ) (all : List Glyph) → Holds file all self.entry → AreWrittenBy file all w.tokens.items) }
+        ensures spanned { IfOk result (λ w. length w.tokens.items ≤ length w.spans.items) }
+        ensures laid { IfOk result (λ w. (file : ℕ) (all : List Glyph) → Holds file all self.entry → AreLaid file all w.tokens.items) }
+        ensures first { IfErr result (IsFirstFrom self.entry) }
     {
         while let Some(glyph) = self.cursor.peek() {
             self.step(glyph)?;
@@ -134,6 +148,8 @@ impl<'a> Lexer<'a> {
         requires more { 0 < length self.old.cursor.glyphs }
         ensures sound { OnOk result (IsSound self.new) }
         ensures reads { OnOk result (Reads self.old self.new) }
+        ensures trails { OnOk result (KeepsTrail self.old self.new) }
+        ensures first { IfErr result (IsFirstFrom self.old) }
         ensures follows { Follows self.old.cursor self.new.cursor }
         ensures fewer { OnOk result (length self.new.cursor.glyphs ≤ length self.old.cursor.glyphs - 1) }
     {
@@ -150,6 +166,8 @@ impl<'a> Lexer<'a> {
         requires more { 0 < length self.old.cursor.glyphs }
         ensures sound { OnOk result (IsSound self.new) }
         ensures reads { OnOk result (Reads self.old self.new) }
+        ensures trails { OnOk result (KeepsTrail self.old self.new) }
+        ensures first { IfErr result (IsFirstFrom self.old) }
         ensures follows { Follows self.old.cursor self.new.cursor }
         ensures fewer { OnOk result (length self.new.cursor.glyphs ≤ length self.old.cursor.glyphs - 1) }
     {
@@ -180,6 +198,7 @@ impl<'a> Lexer<'a> {
         requires feed { sees 10 self.old.cursor.glyphs 1 ≡ true }
         ensures sound { IsSound self.new }
         ensures reads { Reads self.old self.new }
+        ensures trails { KeepsTrail self.old self.new }
         ensures follows { Follows self.old.cursor self.new.cursor }
         ensures fewer { length self.new.cursor.glyphs ≡ length self.old.cursor.glyphs - 1 }
     {
@@ -191,6 +210,7 @@ impl<'a> Lexer<'a> {
         requires head { Some (Char (code_of blank)) ≡ slice_get self.old.cursor.glyphs 0 }
         ensures sound { IsSound self.new }
         ensures reads { Reads self.old self.new }
+        ensures trails { KeepsTrail self.old self.new }
         ensures follows { Follows self.old.cursor self.new.cursor }
         ensures fewer { length self.new.cursor.glyphs ≡ length self.old.cursor.glyphs - 1 }
     {
@@ -201,9 +221,12 @@ impl<'a> Lexer<'a> {
     /// Goes over a glyph that begins no token.
     fn stray(&mut self, rule: Rule) -> Result<(), Stop>
         requires lexical { IsTrue (is_lexical rule) }
+        requires strays { Strays rule self.old.cursor.glyphs }
         requires sound { IsSound self.old }
         ensures sound { OnOk result (IsSound self.new) }
         ensures reads { OnOk result (Reads self.old self.new) }
+        ensures trails { OnOk result (KeepsTrail self.old self.new) }
+        ensures first { IfErr result (IsFirstFrom self.old) }
         ensures follows { Follows self.old.cursor self.new.cursor }
         ensures fewer { OnOk result (length self.new.cursor.glyphs ≤ length self.old.cursor.glyphs - 1) }
     {
@@ -218,6 +241,8 @@ impl<'a> Lexer<'a> {
         requires head { Some (Char 92) ≡ slice_get self.old.cursor.glyphs 0 }
         ensures sound { OnOk result (IsSound self.new) }
         ensures reads { OnOk result (Reads self.old self.new) }
+        ensures trails { OnOk result (KeepsTrail self.old self.new) }
+        ensures first { IfErr result (IsFirstFrom self.old) }
         ensures follows { Follows self.old.cursor self.new.cursor }
         ensures fewer { OnOk result (length self.new.cursor.glyphs ≤ length self.old.cursor.glyphs - 1) }
     {
@@ -247,6 +272,8 @@ impl<'a> Lexer<'a> {
         requires head { Some (Char 35) ≡ slice_get self.old.cursor.glyphs 0 }
         ensures sound { OnOk result (IsSound self.new) }
         ensures reads { OnOk result (Reads self.old self.new) }
+        ensures trails { OnOk result (KeepsTrail self.old self.new) }
+        ensures first { IfErr result (IsFirstFrom self.old) }
         ensures follows { Follows self.old.cursor self.new.cursor }
         ensures fewer { OnOk result (length self.new.cursor.glyphs ≤ length self.old.cursor.glyphs - 1) }
     {
@@ -261,10 +288,10 @@ impl<'a> Lexer<'a> {
 
     /// Goes over the rest of a comment, up to the line's end.
     fn comment_text(&mut self) -> Result<(), Stop>
+        ensures fault { IfErr result (StopsInText self.old.cursor) }
         ensures text { OnOk result (IsCommentText self.old.cursor.glyphs self.new.cursor.glyphs) }
         ensures follows { Follows self.old.cursor self.new.cursor }
-        ensures found { self.new.found ≡ self.old.found }
-        ensures lines { self.new.lines ≡ self.old.lines }
+        ensures keeps { KeepsRest self.old self.new }
     {
         'text: while self.is_in_comment()? {
             self.cursor.advance();
@@ -274,7 +301,8 @@ impl<'a> Lexer<'a> {
 
     /// Whether a character of a comment comes next, and not the end of its line.
     fn is_in_comment(&self) -> Result<bool, Stop>
-        ensures { IfOk result (λ b. GoesOn b self.now.cursor.glyphs) }
+        ensures goes { IfOk result (λ b. GoesOn b self.now.cursor.glyphs) }
+        ensures fault { IfErr result (StopsInText self.now.cursor) }
     {
         match self.cursor.peek() {
             None => Ok(false),
@@ -293,6 +321,8 @@ impl<'a> Lexer<'a> {
         requires head { Some (Char 10) ≡ slice_get self.old.cursor.glyphs 0 }
         ensures sound { OnOk result (IsSound self.new) }
         ensures reads { OnOk result (Reads self.old self.new) }
+        ensures trails { OnOk result (KeepsTrail self.old self.new) }
+        ensures first { IfErr result (IsFirstFrom self.old) }
         ensures follows { Follows self.old.cursor self.new.cursor }
         ensures fewer { OnOk result (length self.new.cursor.glyphs ≤ length self.old.cursor.glyphs - 1) }
     {
@@ -304,7 +334,8 @@ impl<'a> Lexer<'a> {
         }
         let end = self.cursor.offset();
         self.newline(pos, Span { start, end })?;
-        self.lines.end()
+        self.lines.end()?;
+        Ok(())
     }
 
     /// Ends the line with Newline at `pos`, of these bytes, if it has a token.
@@ -312,9 +343,11 @@ impl<'a> Lexer<'a> {
         requires { IsPlaced self.old pos }
         ensures placed { OnOk result (IsPlaced self.new pos) }
         ensures count { OnOk result (length self.new.found.tokens ≤ length self.old.found.tokens + count_of_line self.old.lines.is_open) }
-        ensures written { OnOk result (written self.new.found.tokens ≡ written self.old.found.tokens) }
+        ensures newline { OnOk result (self.new.found.tokens ≡ self.old.found.tokens ++ newline_if self.old.lines.is_open pos) }
+        ensures items { OnOk result (items_of self.new.brackets ≡ ended_if self.old.lines.is_open (items_of self.old.brackets)) }
         ensures lines { self.new.lines ≡ self.old.lines }
         ensures cursor { self.new.cursor ≡ self.old.cursor }
+        ensures want { IfErr result IsWant }
     {
         if !self.lines.is_open() {
             return Ok(());
@@ -327,11 +360,15 @@ impl<'a> Lexer<'a> {
     /// Goes over the token that begins with this character, or over a character that begins none.
     #[tactic(auto, unfolding(crate::specs::Start::start_at))]
     fn other(&mut self, c: char) -> Result<(), Stop>
+        requires plain { (c ≢ 32) × (c ≢ 9) × (c ≢ 10) × (c ≢ 35) × (c ≢ 92) }
+        requires lone { c ≡ 13 → sees 10 self.old.cursor.glyphs 1 ≡ false }
         requires sound { IsSound self.old }
         requires head { Some (Char c) ≡ slice_get self.old.cursor.glyphs 0 }
         requires more { 0 < length self.old.cursor.glyphs }
         ensures sound { OnOk result (IsSound self.new) }
         ensures reads { OnOk result (Reads self.old self.new) }
+        ensures trails { OnOk result (KeepsTrail self.old self.new) }
+        ensures first { IfErr result (IsFirstFrom self.old) }
         ensures follows { Follows self.old.cursor self.new.cursor }
         ensures fewer { OnOk result (length self.new.cursor.glyphs ≤ length self.old.cursor.glyphs - 1) }
     {
@@ -348,6 +385,8 @@ impl<'a> Lexer<'a> {
         requires more { 0 < length self.old.cursor.glyphs }
         ensures sound { OnOk result (IsSound self.new) }
         ensures reads { OnOk result (Reads self.old self.new) }
+        ensures trails { OnOk result (KeepsTrail self.old self.new) }
+        ensures first { IfErr result (IsFirstFrom self.old) }
         ensures follows { Follows self.old.cursor self.new.cursor }
         ensures fewer { OnOk result (length self.new.cursor.glyphs ≤ length self.old.cursor.glyphs - 1) }
     {
@@ -374,8 +413,8 @@ impl<'a> Lexer<'a> {
         ensures placed { OnOk result (IsPlaced self.new pos) }
         ensures load { OnOk result (load self.new ≤ load self.old + 2) }
         ensures cursor { self.new.cursor ≡ self.old.cursor }
-        ensures written { OnOk result (written self.new.found.tokens ≡ written self.old.found.tokens) }
-        ensures hidden { OnOk result (self.new.lines.lead ≡ self.old.lines.lead) }
+        ensures deeper { OnOk result (Deepens deeper pos self.old self.new) }
+        ensures fault { IfErr result (Undeepened deeper pos self.old) }
     {
         let Some(level) = deeper else {
             return Ok(());
@@ -392,8 +431,8 @@ impl<'a> Lexer<'a> {
         ensures placed { OnOk result (IsPlaced self.new pos) }
         ensures load { OnOk result (load self.new ≤ load self.old + 1) }
         ensures cursor { self.new.cursor ≡ self.old.cursor }
-        ensures written { OnOk result (written self.new.found.tokens ≡ written self.old.found.tokens) }
-        ensures hidden { OnOk result (self.new.lines.lead ≡ self.old.lines.lead) }
+        ensures opens { IfOk result (λ deeper. Opens self.old.lines.is_open deeper pos self.old self.new) }
+        ensures fault { IfErr result (Unopened pos self.old) }
     {
         if self.lines.is_open() {
             return Ok(None);
@@ -415,8 +454,11 @@ impl<'a> Lexer<'a> {
         ensures placed { OnOk result (IsPlaced self.new pos) }
         ensures load { OnOk result (load self.new ≤ load self.old) }
         ensures cursor { self.new.cursor ≡ self.old.cursor }
-        ensures written { OnOk result (written self.new.found.tokens ≡ written self.old.found.tokens) }
-        ensures hidden { OnOk result (self.new.lines.lead ≡ self.old.lines.lead) }
+        ensures closed { OnOk result (AreClosed level pos self.old.lines.blocks self.new.lines.blocks self.old.found.tokens self.new.found.tokens) }
+        ensures low { OnOk result (innermost self.new.lines.blocks ≤ level) }
+        ensures line { KeepsLine self.old.lines self.new.lines }
+        ensures brackets { self.new.brackets ≡ self.old.brackets }
+        ensures want { IfErr result IsWant }
     {
         'above: while level < self.lines.level() {
             self.lines.close_block();
@@ -431,6 +473,9 @@ impl<'a> Lexer<'a> {
         ensures cursor { self.new.cursor ≡ self.old.cursor }
         ensures found { self.new.found ≡ self.old.found }
         ensures lines { self.new.lines ≡ self.old.lines }
+        ensures items { OnOk result (items_of self.new.brackets ≡ items_after kind.now (items_of self.old.brackets)) }
+        ensures room { OnOk result (FitsBy (role_of kind.now) (items_of self.old.brackets)) }
+        ensures refused { IfErr result (IsRefusal pos (role_of kind.now) (items_of self.old.brackets)) }
     {
         self.brackets.take(kind, pos)
     }
@@ -438,13 +483,13 @@ impl<'a> Lexer<'a> {
     /// Goes over the token that begins so at `pos`.
     fn scan(&mut self, start: Start, pos: Pos) -> Result<Scanned, Stop>
         requires starts { Some start ≡ spec.start_at self.old.cursor.glyphs }
+        requires few { length self.old.cursor.glyphs ≤ 1_048_576 }
         requires line { 1 ≤ pos.line }
         requires column { 1 ≤ pos.column }
         ensures token { IfOk result (λ r. r.1 ≡ None → IsToken r.0 self.old.cursor.glyphs self.new.cursor.glyphs) }
-        ensures inner { IfOk result (λ r. IfSome r.1 (λ f. IsInner self.old.cursor f.pos f.rule)) }
+        ensures inner { IfOk result (λ r. IfSome r.1 (IsInnerOf r.0 self.old.cursor)) }
         ensures fault { IfErr result (IsFaultOf pos self.old.cursor.glyphs) }
-        ensures found { self.new.found ≡ self.old.found }
-        ensures lines { self.new.lines ≡ self.old.lines }
+        ensures keeps { KeepsRest self.old self.new }
         ensures kind { IfOk result (λ r. IsNotEnd r.0) }
         ensures follows { Follows self.old.cursor self.new.cursor }
         ensures fewer { OnOk result (length self.new.cursor.glyphs ≤ length self.old.cursor.glyphs - 1) }
@@ -465,10 +510,9 @@ impl<'a> Lexer<'a> {
         requires line { 1 ≤ pos.line }
         requires column { 1 ≤ pos.column }
         ensures token { IfOk result (λ r. r.1 ≡ None → IsToken r.0 self.old.cursor.glyphs self.new.cursor.glyphs) }
-        ensures inner { IfOk result (λ r. IfSome r.1 (λ f. IsInner self.old.cursor f.pos f.rule)) }
+        ensures inner { IfOk result (λ r. IfSome r.1 (IsInnerOf r.0 self.old.cursor)) }
         ensures fault { IfErr result (IsFaultOf pos self.old.cursor.glyphs) }
-        ensures found { self.new.found ≡ self.old.found }
-        ensures lines { self.new.lines ≡ self.old.lines }
+        ensures keeps { KeepsRest self.old self.new }
         ensures kind { IfOk result (λ r. IsNotEnd r.0) }
         ensures follows { Follows self.old.cursor self.new.cursor }
         ensures fewer { OnOk result (length self.new.cursor.glyphs ≤ length self.old.cursor.glyphs - 1) }
@@ -494,8 +538,7 @@ impl<'a> Lexer<'a> {
         requires starts { Some (starts.Mark mark count) ≡ spec.start_at self.old.cursor.glyphs }
         ensures token { IsToken result self.old.cursor.glyphs self.new.cursor.glyphs }
         ensures kind { IsNotEnd result }
-        ensures found { self.new.found ≡ self.old.found }
-        ensures lines { self.new.lines ≡ self.old.lines }
+        ensures keeps { KeepsRest self.old self.new }
         ensures follows { Follows self.old.cursor self.new.cursor }
         ensures fewer { length self.new.cursor.glyphs ≤ length self.old.cursor.glyphs - 1 }
     {
@@ -506,8 +549,7 @@ impl<'a> Lexer<'a> {
     /// Goes over the characters of a mark, one to three.
     fn advance_by(&mut self, count: u8)
         ensures rest { self.new.cursor.glyphs ≡ spec.behind_mark count self.old.cursor.glyphs }
-        ensures found { self.new.found ≡ self.old.found }
-        ensures lines { self.new.lines ≡ self.old.lines }
+        ensures keeps { KeepsRest self.old self.new }
         ensures follows { Follows self.old.cursor self.new.cursor }
         ensures fewer { length self.new.cursor.glyphs ≤ length self.old.cursor.glyphs - 1 }
     {
@@ -520,13 +562,13 @@ impl<'a> Lexer<'a> {
 
     fn name(&mut self, c: char, pos: Pos) -> Result<Scanned, Stop>
         requires starts { Some (starts.Name c) ≡ spec.start_at self.old.cursor.glyphs }
+        requires few { length self.old.cursor.glyphs ≤ 1_048_576 }
         requires line { 1 ≤ pos.line }
         requires column { 1 ≤ pos.column }
         ensures token { IfOk result (λ r. r.1 ≡ None → IsToken r.0 self.old.cursor.glyphs self.new.cursor.glyphs) }
-        ensures inner { IfOk result (λ r. IfSome r.1 (λ f. IsInner self.old.cursor f.pos f.rule)) }
+        ensures inner { IfOk result (λ r. IfSome r.1 (IsInnerOf r.0 self.old.cursor)) }
         ensures fault { IfErr result (IsFaultOf pos self.old.cursor.glyphs) }
-        ensures found { self.new.found ≡ self.old.found }
-        ensures lines { self.new.lines ≡ self.old.lines }
+        ensures keeps { KeepsRest self.old self.new }
         ensures kind { IfOk result (λ r. IsNotEnd r.0) }
         ensures follows { Follows self.old.cursor self.new.cursor }
         ensures fewer { OnOk result (length self.new.cursor.glyphs ≤ length self.old.cursor.glyphs - 1) }
@@ -536,7 +578,10 @@ impl<'a> Lexer<'a> {
         self.cursor.advance();
         read_name(&mut self.cursor, &mut self.body.chars)?;
         match word_of(self.body.chars.as_slice()) {
-            Word::Name => Ok((TokenKind::Word(self.text()?), None)),
+            Word::Name => {
+                let text = self.recent.text(self.body.chars.as_slice())?;
+                Ok((TokenKind::Word(text), None))
+            }
             Word::Keyword(keyword) => Ok((TokenKind::Keyword(keyword), None)),
             Word::Float => Err(stop_at(pos, Rule::Float)),
         }
@@ -545,13 +590,13 @@ impl<'a> Lexer<'a> {
     /// Goes over a string.
     fn quoted(&mut self, pos: Pos) -> Result<Scanned, Stop>
         requires starts { Some starts.Quoted ≡ spec.start_at self.old.cursor.glyphs }
+        requires few { length self.old.cursor.glyphs ≤ 1_048_576 }
         requires line { 1 ≤ pos.line }
         requires column { 1 ≤ pos.column }
         ensures token { IfOk result (λ r. r.1 ≡ None → IsToken r.0 self.old.cursor.glyphs self.new.cursor.glyphs) }
-        ensures inner { IfOk result (λ r. IfSome r.1 (λ f. IsInner self.old.cursor f.pos f.rule)) }
+        ensures inner { IfOk result (λ r. IfSome r.1 (IsInnerOf r.0 self.old.cursor)) }
         ensures fault { IfErr result (IsFaultOf pos self.old.cursor.glyphs) }
-        ensures found { self.new.found ≡ self.old.found }
-        ensures lines { self.new.lines ≡ self.old.lines }
+        ensures keeps { KeepsRest self.old self.new }
         ensures kind { IfOk result (λ r. IsNotEnd r.0) }
         ensures follows { Follows self.old.cursor self.new.cursor }
         ensures fewer { OnOk result (length self.new.cursor.glyphs ≤ length self.old.cursor.glyphs - 1) }
@@ -562,20 +607,8 @@ impl<'a> Lexer<'a> {
         if !is_ended {
             return Err(stop_at(pos, Rule::UnterminatedString));
         }
-        Ok((TokenKind::Quoted(self.text()?), fault))
-    }
-
-    /// The text of the characters that were read.
-    fn text(&self) -> Result<Text, NoMemory>
-        ensures { IfOk result (λ t. t ≡ self.now.body.chars.items) }
-    {
-        let chars = Vec::from_slice(self.alloc, self.body.chars.as_slice())?;
-        match Text::of(chars) {
-            Ok(text) => Ok(text),
-            // A file has fewer characters than a text may have.
-            Err(TextFault::TooLong) => Err(impossible().into()),
-            Err(_) => Err(NoMemory),
-        }
+        let text = self.recent.text(self.body.chars.as_slice())?;
+        Ok((TokenKind::Quoted(text), fault))
     }
 
     /// Ends the last line and the open blocks.
@@ -583,7 +616,9 @@ impl<'a> Lexer<'a> {
         requires { IsSound self }
         ensures whole { IfOk result (λ w. AreWhole self.entry.cursor.pos.file w.tokens.items) }
         ensures count { IfOk result (λ w. length w.tokens.items ≤ load self.entry + 1) }
-        ensures written { IfOk result (λ w. (self.entry.lines.lead.hidden ≡ None) × (written w.tokens.items ≡ written self.entry.found.tokens)) }
+        ensures spanned { IfOk result (λ w. length w.tokens.items ≤ length w.spans.items) }
+        ensures laid { IfOk result (λ w. (file : ℕ) (all : List Glyph) → Holds file all self.entry → self.entry.cursor.glyphs ≡ [] → AreLaid file all w.tokens.items) }
+        ensures first { IfErr result (λ stop. self.entry.cursor.glyphs ≡ [] → IsFirstFrom self.entry stop) }
     {
         let pos = self.cursor.pos();
         let at = self.cursor.offset();

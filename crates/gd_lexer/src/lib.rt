@@ -15,6 +15,7 @@ mod mark;
 mod name;
 mod number;
 mod quoted;
+mod recent;
 mod spelled;
 mod stop;
 mod stopped;

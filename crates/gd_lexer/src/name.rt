@@ -1,5 +1,5 @@
 //! Names: which characters they are made of, and reading one.
-ghost use Rattle.std.specs.Prelude.{◌≡◌, ◌||◌, ◌==◌, slice_get, Some, OnOk};
+ghost use Rattle.std.specs.Prelude.{◌≡◌, ◌≤◌, ◌+◌, ◌||◌, ◌==◌, length, slice_get, Some, OnOk};
 ghost use Rattle.unicode_ident.specs.Ident.{is_xid_start, is_xid_continue};
 ghost use Rattle.gd_lexis.specs.declared.glyph.Glyph.TheVariants.{Char};
 ghost use Rattle.gd_lexer.specs.Name as spec;
@@ -10,20 +10,31 @@ use gd_lexis::Glyph;
 use no_memory::NoMemory;
 
 /// Whether a name can begin with the character.
+#[inline(always)]
+#[tactic(auto, using(crate::proofs::NameLemmas::ascii_begins))]
 pub fn begins_name(c: char) -> bool
     ensures { result ≡ (is_xid_start c || (c == 95)) }
 {
+    if c.is_ascii() {
+        return c.is_ascii_alphabetic() || c == '_';
+    }
     unicode_ident::is_xid_start(c) || c == '_'
 }
 
 /// Whether a name can go on with the character.
+#[inline(always)]
+#[tactic(auto, using(crate::proofs::NameLemmas::ascii_continues))]
 pub fn continues_name(c: char) -> bool
     ensures { result ≡ is_xid_continue c }
 {
+    if c.is_ascii() {
+        return c.is_ascii_alphanumeric() || c == '_';
+    }
     unicode_ident::is_xid_continue(c)
 }
 
 /// The next character, if a name can go on with it.
+#[inline(always)]
 pub fn next_in_name(cursor: &Cursor) -> Option<char>
     ensures { result ≡ spec.next_in_name (slice_get cursor.now.glyphs 0) }
 {
@@ -33,6 +44,7 @@ pub fn next_in_name(cursor: &Cursor) -> Option<char>
     }
 }
 
+#[inline(always)]
 fn goes_on(c: char) -> Option<char>
     ensures { result ≡ spec.next_in_name (Some (Char c)) }
 {
@@ -45,6 +57,7 @@ pub fn read_name(cursor: &mut Cursor, chars: &mut Vec<char>) -> Result<(), NoMem
     ensures follows { Follows cursor.old cursor.new }
     ensures chars { OnOk result (chars.new.items ≡ spec.name_behind chars.old.items cursor.old.glyphs) }
     ensures rest { OnOk result (cursor.new.glyphs ≡ spec.after_name cursor.old.glyphs) }
+    ensures few { OnOk result (length chars.new.items + length cursor.new.glyphs ≤ length chars.old.items + length cursor.old.glyphs) }
 {
     while let Some(c) = next_in_name(cursor) {
         chars.push(c)?;

@@ -1,5 +1,5 @@
 //! Strings.
-ghost use Rattle.std.specs.Prelude.{◌≡◌, ◌<◌, ◌≤◌, ◌-◌, ◌++◌, ◌==◌, ◌||◌, [], ◌∷◌, IfOk, OnOk, Some, None, length};
+ghost use Rattle.std.specs.Prelude.{◌≡◌, ◌<◌, ◌≤◌, ◌+◌, ◌-◌, ◌++◌, ◌==◌, ◌||◌, [], ◌∷◌, IfOk, OnOk, Some, None, length};
 ghost use Rattle.std.specs.Bool.{OnTrue, OnFalse};
 ghost use Rattle.gd_lexer.specs.Escape.{reading_of, seen_fault, or_fault};
 ghost use Rattle.gd_lexer.specs.Escape as steps;
@@ -136,6 +136,8 @@ fn close(cursor: &mut Cursor, quote: Quote) -> bool
 /// Goes over one glyph that stands for itself, or a line end, which is always a line feed.
 #[tactic(auto, unfolding(crate::specs::Escape::plain))]
 fn plain(cursor: &mut Cursor, glyph: Glyph, body: &mut Body) -> Result<(), NoMemory>
+    requires { 0 < length cursor.old.glyphs }
+    ensures few { OnOk result (length body.new.chars.items + length cursor.new.glyphs ≤ length body.old.chars.items + length cursor.old.glyphs) }
     ensures value { OnOk result (reading_of cursor.new body.new ≡ steps.plain glyph (reading_of cursor.old body.old)) }
     ensures follows { Follows cursor.old cursor.new }
     ensures fewer { OnOk result (length cursor.new.glyphs ≤ length cursor.old.glyphs - 1) }
@@ -160,6 +162,8 @@ fn plain(cursor: &mut Cursor, glyph: Glyph, body: &mut Body) -> Result<(), NoMem
 /// Goes over a backslash of a raw string and the glyph after it, which both stay.
 #[tactic(auto, unfolding(crate::specs::Escape::kept))]
 fn kept(cursor: &mut Cursor, body: &mut Body) -> Result<(), NoMemory>
+    requires { 0 < length cursor.old.glyphs }
+    ensures few { OnOk result (length body.new.chars.items + length cursor.new.glyphs ≤ length body.old.chars.items + length cursor.old.glyphs) }
     ensures value { OnOk result (reading_of cursor.new body.new ≡ steps.kept (reading_of cursor.old body.old)) }
     ensures follows { Follows cursor.old cursor.new }
     ensures fewer { OnOk result (length cursor.new.glyphs ≤ length cursor.old.glyphs - 1) }
@@ -174,6 +178,8 @@ fn kept(cursor: &mut Cursor, body: &mut Body) -> Result<(), NoMemory>
 
 /// Goes over one glyph between the ends of the string, or over the escape that begins with it.
 fn step(cursor: &mut Cursor, quote: Quote, glyph: Glyph, body: &mut Body) -> Result<(), NoMemory>
+    requires { 0 < length cursor.old.glyphs }
+    ensures few { OnOk result (length body.new.chars.items + length cursor.new.glyphs ≤ length body.old.chars.items + length cursor.old.glyphs) }
     ensures value { OnOk result (reading_of cursor.new body.new ≡ spec.step_by (spec.is_backslash glyph) quote.is_raw glyph (reading_of cursor.old body.old)) }
     ensures follows { Follows cursor.old cursor.new }
     ensures fewer { OnOk result (length cursor.new.glyphs ≤ length cursor.old.glyphs - 1) }
@@ -187,6 +193,7 @@ fn step(cursor: &mut Cursor, quote: Quote, glyph: Glyph, body: &mut Body) -> Res
 
 /// Reads the string that begins here into `body`. The answer is whether it ends.
 pub fn quoted(cursor: &mut Cursor, body: &mut Body) -> Result<bool, NoMemory>
+    ensures few { OnOk result (length body.new.chars.items + length cursor.new.glyphs ≤ length body.old.chars.items + length cursor.old.glyphs) }
     ensures value { IfOk result (λ ended. spec.Scans (reading_of cursor.old body.old) ended (reading_of cursor.new body.new)) }
     ensures follows { Follows cursor.old cursor.new }
     ensures fewer { length cursor.new.glyphs ≤ length cursor.old.glyphs - 1 }

@@ -1,5 +1,5 @@
--- Where what is left is cut to its end, and the lines keep their bounds, no rule on brackets and items is broken.
-use Rattle.std.proofs.Common.{◌≡◌, ℕ, ◌+◌, ◌≤◌, Bool, false, true, ◌==◌, ◌||◌, ◌&&◌, List, [], ◌∷◌, ◌++◌, map, fold, refl, ap, sym, ◌∙◌, subst, inl, inr, arith, true≢false, append_assoc, append-nil, if◌then◌else◌, slice_index, ◌-◌}
+-- Where a piece stands next, and the lines keep their bounds, no rule on brackets and items is broken.
+use Rattle.std.proofs.Common.{◌≡◌, ℕ, ◌+◌, ◌≤◌, Bool, false, true, ◌==◌, ◌||◌, ◌&&◌, List, [], ◌∷◌, ◌++◌, map, fold, length, length-append, refl, ap, sym, ◌∙◌, subst, inl, inr, arith, true≢false, append_assoc, append-nil, if◌then◌else◌, slice_index, ◌-◌}
 use Rattle.std.specs.Prelude.{◌⊎◌, All}
 use Rattle.std.specs.Int.{IsInRange}
 use Rattle.std.proofs.lemmas.Bool.{or_cases, eqb-true}
@@ -13,14 +13,14 @@ use Rattle.gd_model.specs.declared.rule.Rule.TheVariants as rules
 use Rattle.gd_lexis.specs.declared.glyph.Glyph.{Glyph}
 use Rattle.gd_lexis.specs.declared.glyph.Glyph.TheVariants.{Char}
 use Rattle.gd_lexis.specs.Words.{mark_text}
-use Rattle.gd_lexis.specs.Pieces.{Piece, Tok, Writes, BeginsWith, IsLongest, IsCut}
+use Rattle.gd_lexis.specs.Pieces.{Piece, Tok, Writes, BeginsWith, IsLongest}
 use Rattle.gd_lexis.specs.Lines.{Parted, parted, parted_behind, lines_of, is_line_end, level, level_behind, is_opening, is_closing}
 use Rattle.gd_lexis.specs.Items.{items, items_behind, items_behind_mark, is_separator, counted, closed, ended}
 use Rattle.gd_lexis.specs.Lexes.{IsWithin}
 use Rattle.gd_lexis.specs.Faults.{Breaks, IsCounted}
 use Rattle.gd_lexis.proofs.Tokens.{BeginsName, BeginsString, token_begins}
 use Rattle.gd_lexis.proofs.Cuts.{IsGap, char_parts}
-use Rattle.gd_lexis.proofs.Heads.{TokenFront, token_front, token_front_of, Next, next_piece, token_next, token_code, token_code_no_gap, begins_at}
+use Rattle.gd_lexis.proofs.Heads.{Front, TokenFront, token_front, token_front_of, Next, next_piece, token_next, token_code, token_code_no_gap, begins_at}
 
 -- ---- how lines go on
 
@@ -61,6 +61,10 @@ unfolding Grown
 grows P [] = ([], [], ap (λ t. P.whole ++ t ∷ []) (sym (append-nil P.rest)))
 grows P (p ∷ ps) = step (is_line_end p && (level P.rest == 0)) P p ps (grows (cut_line P) ps) (grows (with_piece P p) ps)
 
+pub grown_length : (P : Parted) (lines : List (List Piece)) → Grown P lines → length P.whole + 1 ≤ length lines
+unfolding Grown
+grown_length P lines h = let sizes : length lines ≡ length (P.whole ++ (P.rest ++ h.0) ∷ h.1) = ap length h.2 in omega (arith, sizes, length-append P.whole ((P.rest ++ h.0) ∷ h.1))
+
 pub lines_from : (before ps : List Piece) → lines_of (before ++ ps) ≡ lines_behind (parted before) ps
 lines_from before ps = ap (λ s. s.whole ++ s.rest ∷ []) (fold-append parted_behind (record { whole = []; rest = [] }) before ps)
 
@@ -96,11 +100,11 @@ within_here before kind text ps all e h =
 
 -- ---- brackets
 
-abbrev opens_front : List ℕ → Bool
+abbrev pub opens_front : List ℕ → Bool
 opens_front [] = false
 opens_front (c ∷ cs) = ((c == 40) || (c == 91)) || (c == 123)
 
-opening_front : (m : Mark) → opens_front (mark_text m) ≡ is_opening m
+pub opening_front : (m : Mark) → opens_front (mark_text m) ≡ is_opening m
 opening_front marks.Plus = refl
 opening_front marks.Minus = refl
 opening_front marks.Star = refl
@@ -149,7 +153,7 @@ opening_front marks.RightBrace = refl
 opening_front marks.At = refl
 opening_front marks.Dollar = refl
 
-abbrev IsOpeningCode : ℕ → Type 0
+abbrev pub IsOpeningCode : ℕ → Type 0
 IsOpeningCode c = ((c ≡ 40) ⊎ (c ≡ 91)) ⊎ (c ≡ 123)
 
 code_from : (c : ℕ) → (((c == 40) || (c == 91)) || (c == 123)) ≡ true → IsOpeningCode c
@@ -158,7 +162,7 @@ code_from c h = elim (or_cases ((c == 40) || (c == 91)) (c == 123) h) [
   | inr a ↦ inr (eqb-true c 123 a)
 ]
 
-opening_code : (text : List ℕ) → opens_front text ≡ true → (c : ℕ) × (more : List ℕ) × (text ≡ c ∷ more) × IsOpeningCode c
+pub opening_code : (text : List ℕ) → opens_front text ≡ true → (c : ℕ) × (more : List ℕ) × (text ≡ c ∷ more) × IsOpeningCode c
 opening_code [] h = absurd (true≢false (sym h))
 opening_code (c ∷ cs) h = (c, cs, refl, code_from c h)
 
@@ -178,7 +182,7 @@ deeper : (n : ℕ) (m : Mark) (text : List ℕ) → is_opening m ≡ true → le
 deeper n m text h = ap (λ b. if b then n + 1 else (if is_closing m then n - 1 else n)) h
 
 -- the token that begins with such a character is the bracket
-bracket_kind : (kind : TokenKind) (text : List ℕ) (more vs : List Glyph) (c n : ℕ) → IsOpeningCode c → Writes kind text → map Char text ++ more ≡ Char c ∷ vs
+pub bracket_kind : (kind : TokenKind) (text : List ℕ) (more vs : List Glyph) (c n : ℕ) → IsOpeningCode c → Writes kind text → map Char text ++ more ≡ Char c ∷ vs
     → level_behind n (Tok kind text) ≤ 32 → 32 ≤ n → ⊥
 bracket_kind (kinds.Word name) text more vs c n h k e low high = let b = begins_at (kinds.Word name) text more vs c k e in let d : BeginsName c b.0 = b.1 in omega arith
 bracket_kind (kinds.Keyword l) text more vs c n h k e low high = let b = begins_at (kinds.Keyword l) text more vs c k e in let d : BeginsName c b.0 = b.1 in omega arith
@@ -194,10 +198,10 @@ bracket_kind _ text more vs c n h k e low high = absurd k
 
 bracket : (before : List Piece) (gs vs : List Glyph) (ps all : List Piece) (c : ℕ) → IsOpeningCode c → gs ≡ Char c ∷ vs → 32 ≤ level (parted before).rest → all ≡ before ++ ps
     → All IsWithin (lines_of all) → TokenFront gs ps → ⊥
-bracket before gs vs ps all c h e high f within (token_front kind text more rest g i k longest clear b) =
+bracket before gs vs ps all c h e high f within (token_front kind text more rest g i k longest clear) =
     bracket_kind kind text more vs c (level (parted before).rest) h k (sym i ∙ e) (within_here before kind text rest all (f ∙ ap (λ t. before ++ t) g) within).0 high
 
-pub brackets_too_deep : (before : List Piece) (gs ahead : List Glyph) (ps all : List Piece) → IsCut gs ps [] → all ≡ before ++ ps → All IsWithin (lines_of all)
+pub brackets_too_deep : (before : List Piece) (gs ahead : List Glyph) (ps all : List Piece) → Front gs ps → all ≡ before ++ ps → All IsWithin (lines_of all)
     → Breaks rules.BracketsTooDeep before gs ahead → ⊥
 brackets_too_deep before gs ahead ps all h e within k =
     let m = k.1.0 in
@@ -238,7 +242,7 @@ counted_items xs m false h k l all =
 
 closing_item : (before : List Piece) (m : Mark) (gs : List Glyph) (ps all : List Piece) → is_separator m ≡ false → is_closing m ≡ true
     → 100 ≤ slice_index (closed (items (parted before).rest)) 0 → all ≡ before ++ ps → All IsWithin (lines_of all) → Next (kinds.Mark m) (mark_text m) gs ps → ⊥
-closing_item before m gs ps all h k high e within (next_piece more rest f g clear b) =
+closing_item before m gs ps all h k high e within (next_piece more rest f g clear) =
     let xs = items (parted before).rest in
     let bounds = within_here before (kinds.Mark m) (mark_text m) rest all (e ∙ ap (λ t. before ++ t) f) within in
     let P : List ℕ → Type 0 = λ t. All (λ n. n ≤ 100) t in
@@ -262,10 +266,10 @@ other_kind xs _ text more gs h longest e none all high = absurd h
 
 other_item : (before : List Piece) (gs : List Glyph) (ps all : List Piece) → NoEnd gs → 100 ≤ slice_index (items (parted before).rest) 0 → all ≡ before ++ ps
     → All IsWithin (lines_of all) → TokenFront gs ps → ⊥
-other_item before gs ps all none high e within (token_front kind text more rest f g h longest clear b) =
+other_item before gs ps all none high e within (token_front kind text more rest f g h longest clear) =
     other_kind (items (parted before).rest) kind text more gs h longest g none (within_here before kind text rest all (e ∙ ap (λ t. before ++ t) f) within).1 high
 
-item_too_long_by : (before : List Piece) (gs : List Glyph) (ps all : List Piece) (n : ℕ) → IsCut gs ps [] → all ≡ before ++ ps → All IsWithin (lines_of all)
+item_too_long_by : (before : List Piece) (gs : List Glyph) (ps all : List Piece) (n : ℕ) → Front gs ps → all ≡ before ++ ps → All IsWithin (lines_of all)
     → IsCounted before gs n → 100 ≤ n → ⊥
 item_too_long_by before gs ps all n h e within (inl k) high =
     closing_item before k.0 gs ps all k.3 k.4 (omega (arith, k.5)) e within (token_next (kinds.Mark k.0) (mark_text k.0) gs ps refl k.1 k.2 h)
@@ -273,6 +277,6 @@ item_too_long_by before gs ps all n h e within (inr k) high =
     let code = token_code gs k.0.1 in
     other_item before gs ps all k.0.0 (omega (arith, k.1)) e within (token_front_of code.0 code.1 gs ps code.2 (token_code_no_gap code.0 code.3) h)
 
-pub item_too_long : (before : List Piece) (gs ahead : List Glyph) (ps all : List Piece) → IsCut gs ps [] → all ≡ before ++ ps → All IsWithin (lines_of all)
+pub item_too_long : (before : List Piece) (gs ahead : List Glyph) (ps all : List Piece) → Front gs ps → all ≡ before ++ ps → All IsWithin (lines_of all)
     → Breaks rules.ItemTooLong before gs ahead → ⊥
 item_too_long before gs ahead ps all h e within k = item_too_long_by before gs ps all k.1.0 h e within k.1.1 k.1.2

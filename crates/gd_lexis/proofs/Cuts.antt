@@ -1,5 +1,5 @@
 -- A file is cut into pieces in one way.
-use Rattle.std.proofs.Common.{◌≡◌, ◌≢◌, ℕ, ◌<◌, false, List, [], ◌∷◌, ◌++◌, length, map, refl, ap, sym, ◌∙◌, subst, inl, inr, arith, true≢false, append-nil}
+use Rattle.std.proofs.Common.{◌≡◌, ◌≢◌, ℕ, ◌<◌, false, List, [], ◌∷◌, ◌++◌, length, map, refl, ap, sym, ◌∙◌, subst, inl, inr, arith, true≢false, append-nil, append_assoc}
 use Rattle.std.specs.Prelude.{◌⊎◌, All}
 use Rattle.std.proofs.lemmas.Bool.{cases_order}
 use Rattle.std.proofs.lemmas.List.{append_cancel_left}
@@ -11,7 +11,7 @@ use Rattle.gd_lexis.specs.declared.glyph.Glyph.{Glyph}
 use Rattle.gd_lexis.specs.declared.glyph.Glyph.TheVariants.{Char}
 use Rattle.gd_lexis.specs.Chars.{IsFile, begins_with_mark}
 use Rattle.gd_lexis.specs.Pieces.{Piece, Blank, LineFeed, Join, Comment, Tok, text_of, Writes, BeginsWith, IsLineEnd, IsLongest, Stands, IsCut}
-use Rattle.gd_lexis.specs.Lines.{lines_of, laid}
+use Rattle.gd_lexis.specs.Lines.{lines_of, laid, texts}
 use Rattle.gd_lexis.specs.Lexes.{Lexes}
 use Rattle.gd_lexis.proofs.Lists.{same_chars}
 use Rattle.gd_lexis.proofs.Readings.{one_reading}
@@ -182,3 +182,28 @@ one_token_list file bytes tokens others h k =
     let P : List Glyph → Type 0 = λ gs. IsCut gs k.pieces [] in
     let pieces : h.pieces ≡ k.pieces = one_cut h.pieces k.pieces h.glyphs h.cut (subst P (sym glyphs) k.cut) in
     h.tokens_are ∙ ap (λ ps. laid file [] [] (lines_of ps)) pieces ∙ sym k.tokens_are
+
+-- ---- two cuts of one file, each up to some place
+
+-- of two cuts of one beginning the one goes on with the other
+pub data Compared (ps qs : List Piece) (us vs : List Glyph) : Type 0 where
+  further : (back : List Piece) → qs ≡ ps ++ back → IsCut us back vs → Compared ps qs us vs
+  nearer : (p : Piece) (back : List Piece) → ps ≡ qs ++ p ∷ back → IsCut vs (p ∷ back) us → Compared ps qs us vs
+
+cons_compared : (p q : Piece) (ps qs : List Piece) (us vs : List Glyph) → p ≡ q → Compared ps qs us vs → Compared (p ∷ ps) (q ∷ qs) us vs
+cons_compared p q ps qs us vs same (further back e h) = further back (ap (λ t. q ∷ t) e ∙ ap (λ x. x ∷ ps ++ back) (sym same)) h
+cons_compared p q ps qs us vs same (nearer x back e h) = nearer x back (ap (λ t. p ∷ t) e ∙ ap (λ y. y ∷ qs ++ x ∷ back) same) h
+
+pub compare_cuts : (ps qs : List Piece) (gs us vs : List Glyph) → IsCut gs ps us → IsCut gs qs vs → Compared ps qs us vs
+compare_cuts [] qs gs us vs h k = let P : List Glyph → Type 0 = λ t. IsCut t qs vs in further qs refl (subst P h k)
+compare_cuts (p ∷ ps) [] gs us vs h k = let P : List Glyph → Type 0 = λ t. IsCut t (p ∷ ps) us in nearer p ps refl (subst P k h)
+compare_cuts (p ∷ ps) (q ∷ qs) gs us vs h k =
+    let same : p ≡ q = one_piece p q h.0 k.0 (sym h.1 ∙ k.1) h.2 k.2 in
+    let tails : h.0 ≡ k.0 = append_cancel_left (text_of p) h.0 k.0 (sym h.1 ∙ k.1 ∙ ap (λ r. text_of r ++ k.0) (sym same)) in
+    let P : List Glyph → Type 0 = λ t. IsCut t qs vs in
+    cons_compared p q ps qs us vs same (compare_cuts ps qs h.0 us vs h.3 (subst P (sym tails) k.3))
+
+-- what is cut are the texts of the pieces, and what is left
+pub cut_texts : (ps : List Piece) (gs rest : List Glyph) → IsCut gs ps rest → gs ≡ texts ps ++ rest
+cut_texts [] gs rest h = h
+cut_texts (p ∷ ps) gs rest h = h.1 ∙ ap (λ t. text_of p ++ t) (cut_texts ps h.0 rest h.3) ∙ sym (append_assoc (text_of p) (texts ps) rest)

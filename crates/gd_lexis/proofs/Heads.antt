@@ -1,4 +1,4 @@
--- What stands where a file goes on that is cut to its end.
+-- What stands where a piece stands next.
 use Rattle.std.proofs.Common.{◌≡◌, ℕ, true, ◌==◌, ◌||◌, List, [], ◌∷◌, ◌++◌, length, map, refl, ap, sym, ◌∙◌, subst, inl, inr, arith, true≢false}
 use Rattle.std.specs.Prelude.{◌⊎◌, IsTrue, nat_le}
 use Rattle.std.specs.Char.{is_ascii_alphabetic}
@@ -23,29 +23,26 @@ use Rattle.gd_lexis.proofs.Cuts.{IsGap, char_parts, no_gap, blank_code, blank_ga
 
 -- the first piece of what is left
 pub data Front (gs : List Glyph) (ps : List Piece) : Type 0 where
-  front : (p : Piece) (more : List Glyph) (rest : List Piece) → ps ≡ p ∷ rest → gs ≡ text_of p ++ more → Stands p more → IsCut more rest [] → Front gs ps
+  front : (p : Piece) (more : List Glyph) (rest : List Piece) → ps ≡ p ∷ rest → gs ≡ text_of p ++ more → Stands p more → Front gs ps
 
 pub front_of : (g : Glyph) (vs gs : List Glyph) (ps : List Piece) → gs ≡ g ∷ vs → IsCut gs ps [] → Front gs ps
 front_of g vs gs [] e h = absurd (glyph_not_empty g vs (sym e ∙ h))
-front_of g vs gs (p ∷ ps) e h = front p h.0 ps refl h.1 h.2 h.3
+front_of g vs gs (p ∷ ps) e h = front p h.0 ps refl h.1 h.2
 
 -- the first piece, where it is a token
 pub data TokenFront (gs : List Glyph) (ps : List Piece) : Type 0 where
   token_front : (kind : TokenKind) (text : List ℕ) (more : List Glyph) (rest : List Piece) → ps ≡ Tok kind text ∷ rest → gs ≡ map Char text ++ more
-      → Writes kind text → IsLongest text (map Char text ++ more) → IsClear kind text more → IsCut more rest [] → TokenFront gs ps
+      → Writes kind text → IsLongest text (map Char text ++ more) → IsClear kind text more → TokenFront gs ps
 
-no_token : {P : Type 0} (c d : ℕ) (vs us gs : List Glyph) → gs ≡ Char c ∷ vs → gs ≡ Char d ∷ us → (IsGap c → ⊥) → IsGap d → P
+pub no_token : {P : Type 0} (c d : ℕ) (vs us gs : List Glyph) → gs ≡ Char c ∷ vs → gs ≡ Char d ∷ us → (IsGap c → ⊥) → IsGap d → P
 no_token c d vs us gs e f none g = let same = (char_parts c d vs us (sym e ∙ f)).0 in let P : ℕ → Type 0 = IsGap in absurd (none (subst P (sym same) g))
 
-token_from : (c : ℕ) (vs gs : List Glyph) (ps : List Piece) → gs ≡ Char c ∷ vs → (IsGap c → ⊥) → Front gs ps → TokenFront gs ps
-token_from c vs gs ps e none (front (Blank d) more rest h k s b) = no_token c d vs more gs e k none (blank_gap d (blank_code d more s))
-token_from c vs gs ps e none (front LineFeed more rest h k s b) = no_token c 10 vs more gs e k none line_feed_gap
-token_from c vs gs ps e none (front (Join end) more rest h k s b) = no_token c 92 vs (map Char end ++ more) gs e k none join_gap
-token_from c vs gs ps e none (front (Comment cs) more rest h k s b) = no_token c 35 vs (map Char cs ++ more) gs e k none comment_gap
-token_from c vs gs ps e none (front (Tok kind text) more rest h k s b) = token_front kind text more rest h k s.0 s.1 s.2 b
-
-pub token_front_of : (c : ℕ) (vs gs : List Glyph) (ps : List Piece) → gs ≡ Char c ∷ vs → (IsGap c → ⊥) → IsCut gs ps [] → TokenFront gs ps
-token_front_of c vs gs ps e none h = token_from c vs gs ps e none (front_of (Char c) vs gs ps e h)
+pub token_front_of : (c : ℕ) (vs gs : List Glyph) (ps : List Piece) → gs ≡ Char c ∷ vs → (IsGap c → ⊥) → Front gs ps → TokenFront gs ps
+token_front_of c vs gs ps e none (front (Blank d) more rest h k s) = no_token c d vs more gs e k none (blank_gap d (blank_code d more s))
+token_front_of c vs gs ps e none (front LineFeed more rest h k s) = no_token c 10 vs more gs e k none line_feed_gap
+token_front_of c vs gs ps e none (front (Join end) more rest h k s) = no_token c 92 vs (map Char end ++ more) gs e k none join_gap
+token_front_of c vs gs ps e none (front (Comment cs) more rest h k s) = no_token c 35 vs (map Char cs ++ more) gs e k none comment_gap
+token_front_of c vs gs ps e none (front (Tok kind text) more rest h k s) = token_front kind text more rest h k s.0 s.1 s.2
 
 -- two tokens that are the longest at one place are one
 same_token : (k l : TokenKind) (text other : List ℕ) (us vs gs : List Glyph) (ps : List Piece) → Writes k text → IsLongest text gs → gs ≡ map Char text ++ us
@@ -59,17 +56,17 @@ parts_of_tok k l text other e = (cc, cc)
 
 -- the longest token that a text with which the glyphs begin writes is the next piece
 pub data Next (kind : TokenKind) (text : List ℕ) (gs : List Glyph) (ps : List Piece) : Type 0 where
-  next_piece : (more : List Glyph) (rest : List Piece) → ps ≡ Tok kind text ∷ rest → gs ≡ map Char text ++ more → IsClear kind text more → IsCut more rest [] → Next kind text gs ps
+  next_piece : (more : List Glyph) (rest : List Piece) → ps ≡ Tok kind text ∷ rest → gs ≡ map Char text ++ more → IsClear kind text more → Next kind text gs ps
 
 next_from : (kind : TokenKind) (text : List ℕ) (us gs : List Glyph) (ps : List Piece) → Writes kind text → IsLongest text gs → gs ≡ map Char text ++ us → TokenFront gs ps → Next kind text gs ps
-next_from kind text us gs ps h longest e (token_front l other more rest f g i longest' clear b) =
+next_from kind text us gs ps h longest e (token_front l other more rest f g i longest' clear) =
     let same = same_token kind l text other us more gs ps h longest e i longest' g in
     let both = parts_of_tok kind l text other same in
     let P : TokenKind → Type 0 = λ k. IsClear k other more in
     let Q : List ℕ → Type 0 = λ t. IsClear kind t more in
-    next_piece more rest (f ∙ ap (λ t. t ∷ rest) (sym same)) (g ∙ ap (λ t. map Char t ++ more) (sym both.1)) (subst Q (sym both.1) (subst P (sym both.0) clear)) b
+    next_piece more rest (f ∙ ap (λ t. t ∷ rest) (sym same)) (g ∙ ap (λ t. map Char t ++ more) (sym both.1)) (subst Q (sym both.1) (subst P (sym both.0) clear))
 
-pub token_next : (kind : TokenKind) (text : List ℕ) (gs : List Glyph) (ps : List Piece) → Writes kind text → BeginsWith text gs → IsLongest text gs → IsCut gs ps [] → Next kind text gs ps
+pub token_next : (kind : TokenKind) (text : List ℕ) (gs : List Glyph) (ps : List Piece) → Writes kind text → BeginsWith text gs → IsLongest text gs → Front gs ps → Next kind text gs ps
 token_next kind text gs ps h e longest b =
     let begins = token_begins kind text h in
     let head : gs ≡ Char begins.0 ∷ (map Char begins.1 ++ e.0) = e.1 ∙ ap (λ t. map Char t ++ e.0) begins.2 in

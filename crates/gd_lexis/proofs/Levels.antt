@@ -1,4 +1,4 @@
--- Where what is left is cut to its end, and the blocks keep their bounds, no rule on blocks and indentation is broken.
+-- Where a piece stands next, and the blocks keep their bounds, no rule on blocks and indentation is broken.
 use Rattle.std.proofs.Common.{◌≡◌, ℕ, suc, ◌+◌, ◌-◌, ◌<◌, ◌≤◌, Bool, false, true, not, cond, ◌==◌, List, [], ◌∷◌, ◌++◌, length, fold, filter, take, refl, ap, sym, ◌∙◌, subst, arith, if◌then◌else◌, slice_index, nat_le, one-add, length-append}
 use Rattle.std.specs.List.{prefix_len}
 use Rattle.std.proofs.lemmas.Bool.{or_parts, or_right, ne_eqb, leb-true, le-leb}
@@ -6,11 +6,11 @@ use Rattle.std.proofs.lemmas.List.Sums.{fold-append}
 use Rattle.gd_syntax.specs.declared.token.TokenKind.{TokenKind}
 use Rattle.gd_model.specs.declared.rule.Rule.TheVariants as rules
 use Rattle.gd_lexis.specs.declared.glyph.Glyph.{Glyph}
-use Rattle.gd_lexis.specs.Pieces.{Piece, Tok, IsCut}
+use Rattle.gd_lexis.specs.Pieces.{Piece, Tok}
 use Rattle.gd_lexis.specs.Lines.{parted, lines_of, is_token, is_logical, lead, is_indentation, depth, kept, innermost, blocks_behind, open_blocks}
 use Rattle.gd_lexis.specs.Lexes.{AreBlocks, IsMatched}
 use Rattle.gd_lexis.specs.Faults.{Breaks}
-use Rattle.gd_lexis.proofs.Heads.{TokenFront, token_front, token_front_of, token_code, token_code_no_gap}
+use Rattle.gd_lexis.proofs.Heads.{Front, TokenFront, token_front, token_front_of, token_code, token_code_no_gap}
 use Rattle.gd_lexis.proofs.Bounds.{token_in_line}
 
 -- ---- a line's first token
@@ -52,9 +52,9 @@ blocks_here before kind text ps all e h first =
 
 unmatched : (before : List Piece) (gs : List Glyph) (ps all : List Piece) → all ≡ before ++ ps → AreBlocks (lines_of all) → is_logical (parted before).rest ≡ false
     → (IsMatched (open_blocks (parted before).whole) (depth (parted before).rest) → ⊥) → TokenFront gs ps → ⊥
-unmatched before gs ps all e h first none (token_front kind text more rest f g k longest clear b) = none (blocks_here before kind text rest all (e ∙ ap (λ t. before ++ t) f) h first).0
+unmatched before gs ps all e h first none (token_front kind text more rest f g k longest clear) = none (blocks_here before kind text rest all (e ∙ ap (λ t. before ++ t) f) h first).0
 
-pub unmatched_dedent : (before : List Piece) (gs ahead : List Glyph) (ps all : List Piece) → IsCut gs ps [] → all ≡ before ++ ps → AreBlocks (lines_of all)
+pub unmatched_dedent : (before : List Piece) (gs ahead : List Glyph) (ps all : List Piece) → Front gs ps → all ≡ before ++ ps → AreBlocks (lines_of all)
     → Breaks rules.UnmatchedDedent before gs ahead → ⊥
 unmatched_dedent before gs ahead ps all h e blocks k =
     let code = token_code gs k.1.1 in
@@ -62,11 +62,11 @@ unmatched_dedent before gs ahead ps all h e blocks k =
 
 -- ---- the open blocks rise
 
-abbrev Rising : ℕ → List ℕ → Type 0
+abbrev pub Rising : ℕ → List ℕ → Type 0
 Rising low [] = Unit {0}
 Rising low (b ∷ bs) = (low ≤ b) × Rising b bs
 
-abbrev top : ℕ → List ℕ → ℕ
+abbrev pub top : ℕ → List ℕ → ℕ
 top low [] = low
 top low (b ∷ bs) = top b bs
 
@@ -74,7 +74,7 @@ lower : (low low' : ℕ) (bs : List ℕ) → low' ≤ low → Rising low bs → 
 lower low low' [] h k = tt
 lower low low' (b ∷ bs) h k = (omega (arith, k.0), k.1)
 
-top_above : (low : ℕ) (bs : List ℕ) → Rising low bs → low ≤ top low bs
+pub top_above : (low : ℕ) (bs : List ℕ) → Rising low bs → low ≤ top low bs
 top_above low [] h = omega arith
 top_above low (b ∷ bs) h = omega (arith, h.0, top_above b bs h.1)
 
@@ -82,7 +82,7 @@ kept_cons : (b : ℕ) (low d : ℕ) (bs : List ℕ) (t : Bool) → low ≤ b →
 kept_cons b low d bs true l h k = (l, k)
 kept_cons b low d bs false l h k = h
 
-kept_rising : (low d : ℕ) (bs : List ℕ) → Rising low bs → Rising low (kept d bs)
+pub kept_rising : (low d : ℕ) (bs : List ℕ) → Rising low bs → Rising low (kept d bs)
 kept_rising low d [] h = tt
 kept_rising low d (b ∷ bs) h =
     let more : Rising b (kept d bs) = kept_rising b d bs h.1 in
@@ -92,15 +92,15 @@ top_cons : (b low d : ℕ) (bs : List ℕ) (t : Bool) → (t ≡ true → top b 
 top_cons b low d bs true h k = h refl
 top_cons b low d bs false h k = k
 
-kept_top : (low d : ℕ) (bs : List ℕ) → low ≤ d → top low (kept d bs) ≤ d
+pub kept_top : (low d : ℕ) (bs : List ℕ) → low ≤ d → top low (kept d bs) ≤ d
 kept_top low d [] h = h
 kept_top low d (b ∷ bs) h = top_cons b low d bs (nat_le b d) (λ e. kept_top b d bs (leb-true b d e)) (kept_top low d bs h)
 
-push_rising : (low d : ℕ) (bs : List ℕ) → Rising low bs → top low bs ≤ d → Rising low (bs ++ d ∷ [])
+pub push_rising : (low d : ℕ) (bs : List ℕ) → Rising low bs → top low bs ≤ d → Rising low (bs ++ d ∷ [])
 push_rising low d [] h k = (k, tt)
 push_rising low d (b ∷ bs) h k = (h.0, push_rising b d bs h.1 k)
 
-either_rising : (t : Bool) (xs ys : List ℕ) → Rising 0 xs → Rising 0 ys → Rising 0 (if t then xs else ys)
+pub either_rising : (t : Bool) (xs ys : List ℕ) → Rising 0 xs → Rising 0 ys → Rising 0 (if t then xs else ys)
 either_rising true xs ys h k = h
 either_rising false xs ys h k = k
 
@@ -114,7 +114,7 @@ rising_by bs [] h = h
 rising_by bs (line ∷ lines) h =
     rising_by (if is_logical line then blocks_behind bs (depth line) else bs) lines (either_rising (is_logical line) (blocks_behind bs (depth line)) bs (behind_rising (depth line) bs h) h)
 
-blocks_rise : (lines : List (List Piece)) → Rising 0 (open_blocks lines)
+pub blocks_rise : (lines : List (List Piece)) → Rising 0 (open_blocks lines)
 blocks_rise lines = rising_by [] lines tt
 
 -- the innermost open block is the last
@@ -127,11 +127,11 @@ innermost_top : (b : ℕ) (bs : List ℕ) → innermost (b ∷ bs) ≡ top b bs
 innermost_top b [] = refl
 innermost_top b (c ∷ cs) = last_step b c cs ∙ innermost_top c cs
 
-innermost_is : (bs : List ℕ) → innermost bs ≡ top 0 bs
+pub innermost_is : (bs : List ℕ) → innermost bs ≡ top 0 bs
 innermost_is [] = refl
 innermost_is (b ∷ bs) = innermost_top b bs
 
-kept_all : (low d : ℕ) (bs : List ℕ) → Rising low bs → top low bs ≤ d → kept d bs ≡ bs
+pub kept_all : (low d : ℕ) (bs : List ℕ) → Rising low bs → top low bs ≤ d → kept d bs ≡ bs
 kept_all low d [] h k = refl
 kept_all low d (b ∷ bs) h k =
     let fits : nat_le b d ≡ true = le-leb b d (omega (arith, top_above b bs h.1)) in
@@ -147,13 +147,13 @@ deeper_block bs d h k =
 
 too_deep : (before : List Piece) (gs : List Glyph) (ps all : List Piece) → all ≡ before ++ ps → AreBlocks (lines_of all) → is_logical (parted before).rest ≡ false
     → innermost (open_blocks (parted before).whole) < depth (parted before).rest → 32 ≤ length (open_blocks (parted before).whole) → TokenFront gs ps → ⊥
-too_deep before gs ps all e h first less many (token_front kind text more rest f g k longest clear b) =
+too_deep before gs ps all e h first less many (token_front kind text more rest f g k longest clear) =
     let bounds = blocks_here before kind text rest all (e ∙ ap (λ t. before ++ t) f) h first in
     let opened = open_blocks (parted before).whole in
     let deeper = deeper_block opened (depth (parted before).rest) (blocks_rise (parted before).whole) less in
     omega (arith, bounds.1, deeper)
 
-pub blocks_too_deep : (before : List Piece) (gs ahead : List Glyph) (ps all : List Piece) → IsCut gs ps [] → all ≡ before ++ ps → AreBlocks (lines_of all)
+pub blocks_too_deep : (before : List Piece) (gs ahead : List Glyph) (ps all : List Piece) → Front gs ps → all ≡ before ++ ps → AreBlocks (lines_of all)
     → Breaks rules.BlocksTooDeep before gs ahead → ⊥
 blocks_too_deep before gs ahead ps all h e blocks k =
     let code = token_code gs k.1.1 in

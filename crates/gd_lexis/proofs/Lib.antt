@@ -15,7 +15,16 @@ pub mod Indents
 pub mod Quotes
 pub mod Wholes
 pub mod Slashes
+pub mod Bytes
+pub mod Sites
 pub mod Faultless
+pub mod Places
+pub mod Later
+pub mod Least
+pub mod Insides
+pub mod Ahead
+pub mod Exits
+pub mod Leads
 pub mod Short
 pub mod Samples
 pub mod SampleFault

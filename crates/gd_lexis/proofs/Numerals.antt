@@ -1,4 +1,4 @@
--- Where what is left is cut to its end, no rule on bytes, characters and numbers is broken.
+-- Where a piece stands next, no rule on characters and numbers is broken.
 use Rattle.std.proofs.Common.{◌≡◌, ◌≢◌, ℕ, ◌≤◌, ◌^◌, Bool, false, true, not, ◌==◌, ◌||◌, List, [], ◌∷◌, ◌++◌, map, refl, ap, sym, ◌∙◌, subst, inl, inr, arith, lit≤, true≢false, pos}
 use Rattle.std.specs.Prelude.{◌⊎◌, All, IsTrue, codes, nat_le}
 use Rattle.std.specs.Char.{is_ascii_alphanumeric}
@@ -17,13 +17,13 @@ use Rattle.gd_lexis.specs.declared.glyph.Glyph.{Glyph}
 use Rattle.gd_lexis.specs.declared.glyph.Glyph.TheVariants.{Char, Bad}
 use Rattle.gd_lexis.specs.Words.{IsName, GoesOn, IsFloatName, keyword_text, mark_text}
 use Rattle.gd_lexis.specs.Numbers.{IsDigit, WritesNumber, WritesDecimal}
-use Rattle.gd_lexis.specs.Pieces.{Piece, Blank, LineFeed, Join, Comment, Tok, Writes, BeginsWith, BeginsBy, IsClear, Stands, IsCut}
+use Rattle.gd_lexis.specs.Pieces.{Piece, Blank, LineFeed, Join, Comment, Tok, Writes, BeginsWith, BeginsBy, IsClear, Stands}
 use Rattle.gd_lexis.specs.Faults.{IsNumber, IsStray, Breaks}
 use Rattle.gd_model.specs.declared.rule.Rule.TheVariants as rules
 use Rattle.gd_lexis.proofs.Lists.{not_empty}
 use Rattle.gd_lexis.proofs.Tokens.{BeginsName, BeginsString, keyword_letters, token_begins, two_letters}
-use Rattle.gd_lexis.proofs.Cuts.{IsGap, char_parts, no_gap, glyph_not_empty, piece_begins}
-use Rattle.gd_lexis.proofs.Heads.{Front, front, front_of, TokenFront, token_front, token_front_of, Next, next_piece, token_next, begins_token, begins_at}
+use Rattle.gd_lexis.proofs.Cuts.{IsGap, char_parts, no_gap, glyph_not_empty, comment_gap}
+use Rattle.gd_lexis.proofs.Heads.{Front, front, TokenFront, token_front, token_front_of, Next, next_piece, token_next, begins_token, begins_at}
 
 -- ---- bytes that are part of no character
 
@@ -33,40 +33,20 @@ char_bad c b us vs e = cc
 glyph_tail : (g h : Glyph) (us vs : List Glyph) → g ∷ us ≡ h ∷ vs → us ≡ vs
 glyph_tail g h us vs e = cc
 
-pub chars_of : (gs : List Glyph) (ps : List Piece) → IsCut gs ps [] → (cs : List ℕ) × (gs ≡ map Char cs)
-chars_of gs [] h = ([], h)
-chars_of gs (p ∷ ps) h =
-    let begins = piece_begins p h.0 h.2 in
-    let more = chars_of h.0 ps h.3 in
-    (begins.0 ∷ begins.1 ++ more.0, h.1 ∙ ap (λ t. t ++ h.0) begins.2 ∙ ap (λ t. Char begins.0 ∷ map Char begins.1 ++ t) more.1 ∙ ap (λ t. Char begins.0 ∷ t) (joined begins.1 more.0))
-  where
-    joined : (cs ds : List ℕ) → map Char cs ++ map Char ds ≡ map Char (cs ++ ds)
-    joined [] ds = refl
-    joined (c ∷ cs) ds = ap (λ t. Char c ∷ t) (joined cs ds)
-
-pub no_bad : (cs : List ℕ) (ahead more : List Glyph) (b : ℕ) → map Char cs ≡ ahead ++ Bad b ∷ more → ⊥
-no_bad [] [] more b e = glyph_not_empty (Bad b) more (sym e)
-no_bad [] (g ∷ ahead) more b e = glyph_not_empty g (ahead ++ Bad b ∷ more) (sym e)
-no_bad (c ∷ cs) [] more b e = char_bad c b (map Char cs) more e
-no_bad (c ∷ cs) (g ∷ ahead) more b e = no_bad cs ahead more b (glyph_tail (Char c) g (map Char cs) (ahead ++ Bad b ∷ more) e)
-
-pub not_utf8 : (before : List Piece) (gs ahead : List Glyph) (ps : List Piece) → IsCut gs ps [] → Breaks rules.NotUtf8 before gs ahead → ⊥
-not_utf8 before gs ahead ps h k = let chars = chars_of gs ps h in no_bad chars.0 ahead k.1 k.0 (sym chars.1 ∙ k.2)
-
 -- ---- stray characters
 
 code_is : (c d : ℕ) (vs us gs : List Glyph) → gs ≡ Char c ∷ vs → gs ≡ Char d ∷ us → c ≡ d
 code_is c d vs us gs e f = (char_parts c d vs us (sym e ∙ f)).0
 
 stray : (gs : List Glyph) (ps : List Piece) → IsStray gs → Front gs ps → ⊥
-stray gs ps h (front (Blank d) more rest e f (inl s) b) = h.3 (code_is h.0 d h.1.0 more gs h.1.1 f ∙ s)
-stray gs ps h (front (Blank d) more rest e f (inr (inl s)) b) = h.4 (code_is h.0 d h.1.0 more gs h.1.1 f ∙ s)
-stray gs ps h (front (Blank d) more rest e f (inr (inr s)) b) = h.7 (s.1.0, f ∙ ap (λ x. Char x ∷ more) s.0 ∙ ap (λ t. Char 13 ∷ t) s.1.1)
-stray gs ps h (front LineFeed more rest e f s b) = h.5 (code_is h.0 10 h.1.0 more gs h.1.1 f)
-stray gs ps h (front (Join end) more rest e f (inl s) b) = h.8 (more, f ∙ ap (λ t. map Char (92 ∷ t) ++ more) s)
-stray gs ps h (front (Join end) more rest e f (inr s) b) = h.9 (more, f ∙ ap (λ t. map Char (92 ∷ t) ++ more) s)
-stray gs ps h (front (Comment cs) more rest e f s b) = h.6 (code_is h.0 35 h.1.0 (map Char cs ++ more) gs h.1.1 f)
-stray gs ps h (front (Tok kind text) more rest e f s b) = h.2 (begins_token kind text more gs s.0 f)
+stray gs ps h (front (Blank d) more rest e f (inl s)) = h.3 (code_is h.0 d h.1.0 more gs h.1.1 f ∙ s)
+stray gs ps h (front (Blank d) more rest e f (inr (inl s))) = h.4 (code_is h.0 d h.1.0 more gs h.1.1 f ∙ s)
+stray gs ps h (front (Blank d) more rest e f (inr (inr s))) = h.7 (s.1.0, f ∙ ap (λ x. Char x ∷ more) s.0 ∙ ap (λ t. Char 13 ∷ t) s.1.1)
+stray gs ps h (front LineFeed more rest e f s) = h.5 (code_is h.0 10 h.1.0 more gs h.1.1 f)
+stray gs ps h (front (Join end) more rest e f (inl s)) = h.8 (more, f ∙ ap (λ t. map Char (92 ∷ t) ++ more) s)
+stray gs ps h (front (Join end) more rest e f (inr s)) = h.9 (more, f ∙ ap (λ t. map Char (92 ∷ t) ++ more) s)
+stray gs ps h (front (Comment cs) more rest e f s) = h.6 (code_is h.0 35 h.1.0 (map Char cs ++ more) gs h.1.1 f)
+stray gs ps h (front (Tok kind text) more rest e f s) = h.2 (begins_token kind text more gs s.0 f)
 
 -- a carriage return in a comment stands before the comment's line end
 in_comment : (cs : List ℕ) (inner us more : List Glyph) → map Char cs ++ us ≡ inner ++ Char 13 ∷ more → All (λ c. c ≢ 10) cs → (us ≡ []) ⊎ BeginsWith (10 ∷ []) us
@@ -86,25 +66,31 @@ in_comment (c ∷ cs) (g ∷ inner) us more e h k l m n =
     in_comment cs inner us more (glyph_tail (Char c) g (map Char cs ++ us) (inner ++ Char 13 ∷ more) e) (All-tail (λ c. c ≢ 10) c cs h) k (All-tail (λ g. g ≢ Char 10) g inner l)
     (λ front back f. m (c ∷ front) back (ap (λ t. c ∷ t) f)) n
 
-lone_return : (gs : List Glyph) (ps : List Piece) (inner more : List Glyph) → gs ≡ Char 35 ∷ inner ++ Char 13 ∷ more → All (λ g. g ≢ Char 10) inner → (BeginsWith (10 ∷ []) more → ⊥) → Front gs ps → ⊥
-lone_return gs ps inner more e h n (front (Blank d) us rest f g s b) = blank_no_comment d us s (code_is 35 d (inner ++ Char 13 ∷ more) us gs e g)
+-- at `#` stands a comment
+pub comment_here : (vs gs : List Glyph) (ps : List Piece) → gs ≡ Char 35 ∷ vs → Front gs ps → (cs : List ℕ) × (us : List Glyph) × (gs ≡ Char 35 ∷ map Char cs ++ us) × Stands (Comment cs) us
+comment_here vs gs ps e (front (Blank d) us rest f g s) = absurd (blank_no_comment d us s (code_is 35 d vs us gs e g))
   where
     blank_no_comment : (d : ℕ) (us : List Glyph) → Stands (Blank d) us → 35 ≡ d → ⊥
     blank_no_comment d us (inl s) e = omega arith
     blank_no_comment d us (inr (inl s)) e = omega arith
     blank_no_comment d us (inr (inr s)) e = omega (arith, s.0)
-lone_return gs ps inner more e h n (front LineFeed us rest f g s b) = omega (arith, code_is 35 10 (inner ++ Char 13 ∷ more) us gs e g)
-lone_return gs ps inner more e h n (front (Join end) us rest f g s b) = omega (arith, code_is 35 92 (inner ++ Char 13 ∷ more) (map Char end ++ us) gs e g)
-lone_return gs ps inner more e h n (front (Comment cs) us rest f g s b) =
-    in_comment cs inner us more (glyph_tail (Char 35) (Char 35) (map Char cs ++ us) (inner ++ Char 13 ∷ more) (sym g ∙ e)) s.0 s.1 h s.2 n
-lone_return gs ps inner more e h n (front (Tok kind text) us rest f g s b) = no_gap kind text us (inner ++ Char 13 ∷ more) 35 s.0 (sym g ∙ e) (inr (inr (inr (inr (inl refl)))))
+comment_here vs gs ps e (front LineFeed us rest f g s) = absurd (omega (arith, code_is 35 10 vs us gs e g))
+comment_here vs gs ps e (front (Join end) us rest f g s) = absurd (omega (arith, code_is 35 92 vs (map Char end ++ us) gs e g))
+comment_here vs gs ps e (front (Comment cs) us rest f g s) = (cs, us, g, s)
+comment_here vs gs ps e (front (Tok kind text) us rest f g s) = absurd (no_gap kind text us vs 35 s.0 (sym g ∙ e) comment_gap)
 
-pub stray_character : (before : List Piece) (gs ahead : List Glyph) (ps : List Piece) → IsCut gs ps [] → Breaks rules.StrayCharacter before gs ahead → ⊥
-stray_character before gs ahead ps h (inl k) = stray gs ps k.1 (front_of (Char k.1.0) k.1.1.0 gs ps k.1.1.1 h)
+lone_return : (gs : List Glyph) (ps : List Piece) (inner more : List Glyph) → gs ≡ Char 35 ∷ inner ++ Char 13 ∷ more → All (λ g. g ≢ Char 10) inner → (BeginsWith (10 ∷ []) more → ⊥) → Front gs ps → ⊥
+lone_return gs ps inner more e h n first =
+    let c = comment_here (inner ++ Char 13 ∷ more) gs ps e first in
+    let s : Stands (Comment c.0) c.1 = c.3 in
+    in_comment c.0 inner c.1 more (glyph_tail (Char 35) (Char 35) (map Char c.0 ++ c.1) (inner ++ Char 13 ∷ more) (sym c.2 ∙ e)) s.0 s.1 h s.2 n
+
+pub stray_character : (before : List Piece) (gs ahead : List Glyph) (ps : List Piece) → Front gs ps → Breaks rules.StrayCharacter before gs ahead → ⊥
+stray_character before gs ahead ps h (inl k) = stray gs ps k.1 h
 stray_character before gs ahead ps h (inr k) =
     let inner = k.0.0 in
     let begun : gs ≡ Char 35 ∷ inner ++ Char 13 ∷ k.1.0 = k.1.1 ∙ ap (λ t. t ++ Char 13 ∷ k.1.0) k.0.1 in
-    lone_return gs ps inner k.1.0 begun k.0.2 k.1.2 (front_of (Char 35) (inner ++ Char 13 ∷ k.1.0) gs ps begun h)
+    lone_return gs ps inner k.1.0 begun k.0.2 k.1.2 h
 
 -- ---- numbers
 
@@ -112,25 +98,25 @@ tail_same : (text : List ℕ) (us vs gs : List Glyph) → gs ≡ map Char text +
 tail_same [] us vs gs e f = sym e ∙ f
 tail_same (c ∷ text) us vs gs e f = tail_same text us vs (map Char text ++ us) refl (glyph_tail (Char c) (Char c) (map Char text ++ us) (map Char text ++ vs) (sym e ∙ f))
 
-number_next : (text : List ℕ) (v : ℕ) (gs : List Glyph) (ps : List Piece) → IsNumber text v gs → IsCut gs ps [] → Next (kinds.Number (pos v)) text gs ps
+number_next : (text : List ℕ) (v : ℕ) (gs : List Glyph) (ps : List Piece) → IsNumber text v gs → Front gs ps → Next (kinds.Number (pos v)) text gs ps
 number_next text v gs ps h k = token_next (kinds.Number (pos v)) text gs ps (v, h.1, refl) h.0 h.2 k
 
 too_large : (text : List ℕ) (v : ℕ) (gs : List Glyph) (ps : List Piece) → WritesNumber text v → 2 ^ 63 ≤ v → Next (kinds.Number (pos v)) text gs ps → ⊥
-too_large text v gs ps h big (next_piece more rest e f clear b) = omega (arith, clear.0 v h)
+too_large text v gs ps h big (next_piece more rest e f clear) = omega (arith, clear.0 v h)
 
-pub integer_too_large : (before : List Piece) (gs ahead : List Glyph) (ps : List Piece) → IsCut gs ps [] → Breaks rules.IntegerTooLarge before gs ahead → ⊥
+pub integer_too_large : (before : List Piece) (gs ahead : List Glyph) (ps : List Piece) → Front gs ps → Breaks rules.IntegerTooLarge before gs ahead → ⊥
 integer_too_large before gs ahead ps h k = too_large k.1.0 k.1.1 gs ps k.1.2.1 k.1.3 (number_next k.1.0 k.1.1 gs ps k.1.2 h)
 
 goes_on : (text : List ℕ) (v : ℕ) (rest gs : List Glyph) (ps : List Piece) → gs ≡ map Char text ++ rest → BeginsBy GoesOn rest → Next (kinds.Number (pos v)) text gs ps → ⊥
-goes_on text v rest gs ps e h (next_piece more behind f g clear b) =
+goes_on text v rest gs ps e h (next_piece more behind f g clear) =
     let P : List Glyph → Type 0 = λ t. BeginsBy GoesOn t in
     clear.1 (subst P (tail_same text rest more gs e g) h)
 
-pub bad_number : (before : List Piece) (gs ahead : List Glyph) (ps : List Piece) → IsCut gs ps [] → Breaks rules.BadNumber before gs ahead → ⊥
+pub bad_number : (before : List Piece) (gs ahead : List Glyph) (ps : List Piece) → Front gs ps → Breaks rules.BadNumber before gs ahead → ⊥
 bad_number before gs ahead ps h k = goes_on k.1.0 k.1.1 k.1.2 gs ps k.1.4 k.1.5 (number_next k.1.0 k.1.1 gs ps k.1.3 h)
 
 dotted : (text : List ℕ) (v : ℕ) (rest gs : List Glyph) (ps : List Piece) → gs ≡ map Char text ++ rest → WritesDecimal text v → BeginsWith (46 ∷ []) rest → Next (kinds.Number (pos v)) text gs ps → ⊥
-dotted text v rest gs ps e h k (next_piece more behind f g clear b) =
+dotted text v rest gs ps e h k (next_piece more behind f g clear) =
     let P : List Glyph → Type 0 = λ t. BeginsWith (46 ∷ []) t in
     clear.2 v h (subst P (tail_same text rest more gs e g) k)
 
@@ -227,7 +213,7 @@ dot_kind (kinds.Mark m) text d more rest h k clear e = dot_text m text d more re
 dot_kind _ text d more rest h k clear e = absurd k
 
 dot_digit : (d : ℕ) (rest gs : List Glyph) (ps : List Piece) → IsDigit 10 d → gs ≡ Char 46 ∷ Char d ∷ rest → TokenFront gs ps → ⊥
-dot_digit d rest gs ps h e (token_front kind text more behind f g k longest clear b) = dot_kind kind text d more rest h k clear (sym g ∙ e)
+dot_digit d rest gs ps h e (token_front kind text more behind f g k longest clear) = dot_kind kind text d more rest h k clear (sym g ∙ e)
 
 dot_no_gap : IsGap 46 → ⊥
 dot_no_gap h = omega arith
@@ -237,7 +223,7 @@ dot_no_gap h = omega arith
 capital_goes_on : (c : ℕ) → IsInRange 65 90 c → GoesOn c
 capital_goes_on c h = is_xid_continue-ascii c (omega arith) ∙ or_left (is_ascii_alphanumeric c) (c == 95) (or_left (is_in_range 48 57 c || is_in_range 65 90 c) (is_in_range 97 122 c) (or_right (is_in_range 48 57 c) (is_in_range 65 90 c) (and_from (nat_le 65 c) (nat_le c 90) (le-leb 65 c h.0) (le-leb c 90 h.1))))
 
-capital_starts : (c : ℕ) → IsInRange 65 90 c → IsTrue (is_xid_start c || (c == 95))
+pub capital_starts : (c : ℕ) → IsInRange 65 90 c → IsTrue (is_xid_start c || (c == 95))
 capital_starts c h = or_left (is_xid_start c) (c == 95) (is_xid_start-ascii c (omega arith) ∙ or_left (is_in_range 65 90 c) (is_in_range 97 122 c) (and_from (nat_le 65 c) (nat_le c 90) (le-leb 65 c h.0) (le-leb c 90 h.1)))
 
 pub no_keyword : (name : List ℕ) → two_letters name ≡ false → (k : Keyword) → name ≢ keyword_text k
@@ -256,9 +242,9 @@ float_word name (inr (inr (inl e))) = let P : List ℕ → Type 0 = λ t. Writes
 float_word name (inr (inr (inr e))) = let P : List ℕ → Type 0 = λ t. Writes (kinds.Word t) t in subst P (sym e) (three_capitals 78 65 78 (omega arith) (omega arith) (omega arith), refl, no_keyword (codes "NAN") refl)
 
 float_name : (name : List ℕ) (gs : List Glyph) (ps : List Piece) → IsFloatName name → Next (kinds.Word name) name gs ps → ⊥
-float_name name gs ps h (next_piece more rest e f clear b) = clear.0 h
+float_name name gs ps h (next_piece more rest e f clear) = clear.0 h
 
-pub float : (before : List Piece) (gs ahead : List Glyph) (ps : List Piece) → IsCut gs ps [] → Breaks rules.Float before gs ahead → ⊥
+pub float : (before : List Piece) (gs ahead : List Glyph) (ps : List Piece) → Front gs ps → Breaks rules.Float before gs ahead → ⊥
 float before gs ahead ps h (e, inl k) = elim k.6 [
   | inl dot ↦ dotted k.0 k.1 k.2 gs ps k.5 k.4 dot (number_next k.0 k.1 gs ps k.3 h)
   | inr x ↦ goes_on k.0 k.1 k.2 gs ps k.5 (x.0, exponent_letter x.0 x.3, (map Char (x.1 ++ x.2 ∷ []) ++ x.6.0, x.6.1)) (number_next k.0 k.1 gs ps k.3 h)

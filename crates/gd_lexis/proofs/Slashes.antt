@@ -1,17 +1,18 @@
--- Where what is left is cut to its end, each backslash of a string that is not raw begins an escape.
-use Rattle.std.proofs.Common.{true, ◌≡◌, ◌≢◌, ℕ, false, List, [], ◌∷◌, ◌++◌, map, refl, ap, sym, ◌∙◌, inl, inr, arith, append_assoc, append-nil, ◌<◌, ◌≤◌, length, length-append}
+-- Where a piece stands next, each backslash of a string that is not raw begins an escape.
+use Rattle.std.proofs.Common.{Bool, true, ◌≡◌, ◌≢◌, ℕ, false, List, [], ◌∷◌, ◌++◌, map, refl, ap, sym, ◌∙◌, inl, inr, arith, append_assoc, append-nil, ◌<◌, ◌≤◌, length, length-append}
 use Rattle.std.specs.Prelude.{◌⊎◌}
 use Rattle.std.proofs.lemmas.List.{append_cancel_left}
 use Rattle.gd_model.specs.declared.rule.Rule.TheVariants as rules
 use Rattle.gd_lexis.specs.declared.glyph.Glyph.{Glyph}
 use Rattle.gd_lexis.specs.declared.glyph.Glyph.TheVariants.{Char}
 use Rattle.gd_lexis.specs.Strings.{Quote, IsQuote, opening, closing, IsEscape, Body}
-use Rattle.gd_lexis.specs.Pieces.{Piece, BeginsWith, IsCut}
+use Rattle.gd_lexis.specs.Pieces.{Piece, BeginsWith}
 use Rattle.gd_lexis.specs.Faults.{Inside, nothing as in_nothing, plain as in_plain, taken, Parts, no_more, itself, whole_escape, no_escape, Breaks}
 use Rattle.gd_lexis.proofs.Escapes.{meant, one_escape}
 use Rattle.gd_lexis.proofs.Bodies.{Part, a_plain, a_line_end, an_escape, a_kept, a_kept_line_end, Parted, none, first, parts_of, not_both}
 use Rattle.gd_lexis.proofs.Cuts.{char_parts}
 use Rattle.gd_lexis.proofs.Quotes.{closing_head, closings, raw, raw_body}
+use Rattle.gd_lexis.proofs.Heads.{Front}
 use Rattle.gd_lexis.proofs.Wholes.{string_here, joined_glyphs}
 
 -- what is left of a body: it stands at a part, or in a line end
@@ -20,7 +21,7 @@ data Going (q : Quote) (cs : List ℕ) : Type 0 where
   half : (ds t : List ℕ) → cs ≡ 10 ∷ ds → Body q ds t → Going q cs
 
 -- what is left of the file from there on
-abbrev Left : Quote → List ℕ → List Glyph → List Glyph
+abbrev pub Left : Quote → List ℕ → List Glyph → List Glyph
 Left q cs more = map Char cs ++ (map Char (closing q) ++ more)
 
 glyph_tail : (g h : Glyph) (us vs : List Glyph) → g ∷ us ≡ h ∷ vs → us ≡ vs
@@ -81,7 +82,7 @@ at_other q cs g us more r n l (half ds t f b) e = (ds, at t b, glyph_tail g (Cha
 
 -- ---- one of two texts with which the same glyphs begin goes on with the other
 
-longer : (e f : List ℕ) (us vs : List Glyph) → map Char e ++ us ≡ map Char f ++ vs → ((x : List ℕ) × (f ≡ e ++ x)) ⊎ ((x : List ℕ) × (e ≡ f ++ x))
+pub longer : (e f : List ℕ) (us vs : List Glyph) → map Char e ++ us ≡ map Char f ++ vs → ((x : List ℕ) × (f ≡ e ++ x)) ⊎ ((x : List ℕ) × (e ≡ f ++ x))
 longer [] f us vs h = inl (f, refl)
 longer (c ∷ e) [] us vs h = inr (c ∷ e, refl)
 longer (c ∷ e) (d ∷ f) us vs h =
@@ -93,7 +94,7 @@ longer (c ∷ e) (d ∷ f) us vs h =
     again c d e f same (inl h) = inl (h.0, ap (λ y. y ∷ f) (sym same) ∙ ap (λ t. c ∷ t) h.1)
     again c d e f same (inr h) = inr (h.0, ap (λ y. y ∷ e) same ∙ ap (λ t. d ∷ t) h.1)
 
-escapes_same : (e f s t : List ℕ) → IsEscape e s → IsEscape f t → ((x : List ℕ) × (f ≡ e ++ x)) ⊎ ((x : List ℕ) × (e ≡ f ++ x)) → e ≡ f
+pub escapes_same : (e f s t : List ℕ) → IsEscape e s → IsEscape f t → ((x : List ℕ) × (f ≡ e ++ x)) ⊎ ((x : List ℕ) × (e ≡ f ++ x)) → e ≡ f
 escapes_same e f s t h k (inl x) = (one_escape e f s t x.0 [] h k (sym x.1 ∙ sym (append-nil f))).0
 escapes_same e f s t h k (inr x) = (one_escape e f s t [] x.0 h k (append-nil e ∙ x.1)).0
 
@@ -178,17 +179,25 @@ as_raw q end in_nothing = in_nothing
 as_raw q end (in_plain g gs n l i) = in_plain g gs n l (as_raw q end i)
 as_raw q end (taken g gs i) = taken g gs (as_raw q end i)
 
+-- no string that begins here ends later than the one that stands here
+pub ends_first : (q : Quote) (body t : List ℕ) (more end inner : List Glyph) → IsQuote q → Body q body t → Inside q end inner → inner ++ end ≡ Left q body more
+    → length (map Char (closing q) ++ more) ≤ length end
+ends_first q body t more end inner h b i e = by_kind q.is_raw refl
+  where
+    by_kind : (r : Bool) → q.is_raw ≡ r → length (map Char (closing q) ++ more) ≤ length end
+    by_kind true r = ends_no_later q end more body h r i (at t b) e
+    by_kind false r = let raw_one = raw_body q h r b in ends_no_later (raw q) end more body h refl (as_raw q end i) (at raw_one.0 raw_one.1) e
+
 shorter : (body front end back closed : List Glyph) → body ++ end ≡ front ++ Char 92 ∷ back → length front < length body → length closed ≤ length end → length closed < length (Char 92 ∷ back)
 shorter body front end back closed e less most =
     let sizes : length (body ++ end) ≡ length (front ++ Char 92 ∷ back) = ap length e in
     omega (arith, sizes, length-append body end, length-append front (Char 92 ∷ back))
 
-pub bad_escape : (before : List Piece) (gs ahead : List Glyph) (ps : List Piece) → IsCut gs ps [] → Breaks rules.BadEscape before gs ahead → ⊥
+pub bad_escape : (before : List Piece) (gs ahead : List Glyph) (ps : List Piece) → Front gs ps → Breaks rules.BadEscape before gs ahead → ⊥
 bad_escape before gs ahead ps cut k =
     let q = k.0 in
     let end = map Char (closing q) ++ k.2 in
     let f = string_here q gs ps k.5.0 cut in
     let same : k.1 ++ end ≡ Left q f.0 f.2 = append_cancel_left (map Char (opening q)) (k.1 ++ end) (Left q f.0 f.2) (sym k.5.1 ∙ f.4) in
-    let b = raw_body q k.5.0.0 k.6 f.3 in
-    let most : length (map Char (closing q) ++ f.2) ≤ length end = ends_no_later (raw q) end f.2 f.0 k.5.0.0 refl (as_raw q end k.5.2) (at b.0 b.1) same in
+    let most : length (map Char (closing q) ++ f.2) ≤ length end = ends_first q f.0 f.1 f.2 end k.1 k.5.0.0 f.3 k.5.2 same in
     clash q k.4 f.2 f.0 k.5.0.0 k.6 k.9 (at f.1 f.3) (sym k.8 ∙ same) (shorter k.1 k.3 end k.4 (map Char (closing q) ++ f.2) k.8 k.10 most) k.11

@@ -1,5 +1,5 @@
--- Where what is left is cut to its end, a string that begins there ends, and its backslashes begin escapes.
-use Rattle.std.proofs.Common.{◌≡◌, ℕ, Bool, true, false, List, [], ◌∷◌, ◌++◌, map, refl, ap, sym, ◌∙◌, subst, inl, inr, arith, append_assoc}
+-- Where a piece stands next, a string that begins there ends, and its backslashes begin escapes.
+use Rattle.std.proofs.Common.{◌≡◌, ℕ, Bool, true, false, List, [], ◌∷◌, ◌++◌, map, refl, ap, sym, ◌∙◌, subst, inl, inr, arith, append_assoc, true≢false}
 use Rattle.std.specs.Prelude.{◌⊎◌}
 use Rattle.std.specs.Int.{IsInRange}
 use Rattle.std.proofs.lemmas.List.{map-append}
@@ -9,13 +9,13 @@ use Rattle.gd_model.specs.declared.rule.Rule.TheVariants as rules
 use Rattle.gd_lexis.specs.declared.glyph.Glyph.{Glyph}
 use Rattle.gd_lexis.specs.declared.glyph.Glyph.TheVariants.{Char}
 use Rattle.gd_lexis.specs.Strings.{Quote, opening, closing, Body}
-use Rattle.gd_lexis.specs.Pieces.{Piece, Writes, BeginsWith, IsClear, IsCut}
+use Rattle.gd_lexis.specs.Pieces.{Piece, Writes, BeginsWith, BeginsBy, IsClear}
 use Rattle.gd_lexis.specs.Faults.{Opens, Breaks}
 use Rattle.gd_lexis.proofs.Bodies.{parts_of, one, three, IsMark, opened, Written, single, triple, written, no_mark}
-use Rattle.gd_lexis.proofs.Tokens.{BeginsName, BeginsMark, token_begins, next}
+use Rattle.gd_lexis.proofs.Tokens.{BeginsName, BeginsMark, token_begins, next, keyword_letters, two_letters}
 use Rattle.gd_lexis.proofs.Cuts.{IsGap, char_parts}
-use Rattle.gd_lexis.proofs.Heads.{TokenFront, token_front, token_front_of, begins_at}
-use Rattle.gd_lexis.proofs.Quotes.{inside_of, raw_body}
+use Rattle.gd_lexis.proofs.Heads.{Front, TokenFront, token_front, token_front_of, begins_at}
+use Rattle.gd_lexis.proofs.Quotes.{inside_of}
 
 -- ---- texts as glyphs
 
@@ -38,7 +38,7 @@ text_opened : (r : Bool) (cs : List ℕ) (us : List Glyph) → map Char (opened 
 text_opened true cs us = refl
 text_opened false cs us = refl
 
-same_glyphs : (r r' : Bool) (m n : ℕ) (us vs : List Glyph) → IsMark m → IsMark n → glyphs_opened r (Char m ∷ us) ≡ glyphs_opened r' (Char n ∷ vs) → (r ≡ r') × (m ≡ n) × (us ≡ vs)
+pub same_glyphs : (r r' : Bool) (m n : ℕ) (us vs : List Glyph) → IsMark m → IsMark n → glyphs_opened r (Char m ∷ us) ≡ glyphs_opened r' (Char n ∷ vs) → (r ≡ r') × (m ≡ n) × (us ≡ vs)
 same_glyphs true true m n us vs h k e = let same = char_parts m n us vs (char_parts 114 114 (Char m ∷ us) (Char n ∷ vs) e).1 in (refl, same.0, same.1)
 same_glyphs true false m n us vs h k e = let same = (char_parts 114 n (Char m ∷ us) vs e).0 in absurd (omega arith)
 same_glyphs false true m n us vs h k e = let same = (char_parts m 114 us (Char n ∷ vs) e).0 in absurd (omega arith)
@@ -121,45 +121,41 @@ mark_no_gap : (m : ℕ) → IsMark m → IsGap m → ⊥
 mark_no_gap m h g = omega arith
 
 from_quote : (us : List Glyph) (ps : List Piece) (m : ℕ) → IsMark m → TokenFront (Char m ∷ us) ps → QuotedFront (Char m ∷ us)
-from_quote us ps m h (token_front kind text more rest e f k longest clear b) = at_quote kind text more us m h k clear (sym f)
+from_quote us ps m h (token_front kind text more rest e f k longest clear) = at_quote kind text more us m h k clear (sym f)
 
-quoted_here : (us : List Glyph) (ps : List Piece) (m : ℕ) → IsMark m → IsCut (Char m ∷ us) ps [] → QuotedFront (Char m ∷ us)
+quoted_here : (us : List Glyph) (ps : List Piece) (m : ℕ) → IsMark m → Front (Char m ∷ us) ps → QuotedFront (Char m ∷ us)
 quoted_here us ps m h cut = from_quote us ps m h (token_front_of m us (Char m ∷ us) ps refl (mark_no_gap m h) cut)
 
--- at `r` before a quote stands a raw string, or a name and a string
-data RawFront (m : ℕ) (us : List Glyph) : Type 0 where
-  raw_front : QuotedFront (Char 114 ∷ Char m ∷ us) → RawFront m us
-  apart : QuotedFront (Char m ∷ us) → RawFront m us
-
--- a name that begins with `r` before a quote is `r`
-r_alone : (m : ℕ) (us more : List Glyph) (text : List ℕ) (rest : List Piece) → IsMark m → (c : ℕ) (tail : List ℕ) → text ≡ c ∷ tail → BeginsName c (next tail) → map Char text ++ more ≡ Char 114 ∷ Char m ∷ us
-    → IsCut more rest [] → RawFront m us
-r_alone m us more text rest h c [] e k f cut =
-    let behind : more ≡ Char m ∷ us = (char_parts c 114 more (Char m ∷ us) (ap (λ t. map Char t ++ more) (sym e) ∙ f)).1 in
-    let P : List Glyph → Type 0 = λ t. IsCut t rest [] in
-    apart (quoted_here us rest m h (subst P behind cut))
-r_alone m us more text rest h c (d ∷ tail) e k f cut =
+-- at `r` before a quote stands no name: it would be `r`, or go on
+r_alone : (m : ℕ) (us more : List Glyph) (text : List ℕ) → IsMark m → (c : ℕ) (tail : List ℕ) → text ≡ c ∷ tail → BeginsName c (next tail) → map Char text ++ more ≡ Char 114 ∷ Char m ∷ us
+    → (text ≡ 114 ∷ [] → BeginsBy (λ c. (c ≡ 34) ⊎ (c ≡ 39)) more → ⊥) → ⊥
+r_alone m us more text h c [] e k f clear =
+    let heads = char_parts c 114 more (Char m ∷ us) (ap (λ t. map Char t ++ more) (sym e) ∙ f) in
+    clear (e ∙ ap (λ x. x ∷ []) heads.0) (m, h, (us, heads.1))
+r_alone m us more text h c (d ∷ tail) e k f clear =
     let heads = char_parts c 114 (Char d ∷ map Char tail ++ more) (Char m ∷ us) (ap (λ t. map Char t ++ more) (sym e) ∙ f) in
     let second : d ≡ m = (char_parts d m (map Char tail ++ more) us heads.1).0 in
-    absurd (omega arith)
+    omega arith
 
-at_raw : (kind : TokenKind) (text : List ℕ) (more us : List Glyph) (rest : List Piece) (m : ℕ) → IsMark m → Writes kind text → IsClear kind text more
-    → map Char text ++ more ≡ Char 114 ∷ Char m ∷ us → IsCut more rest [] → RawFront m us
-at_raw (kinds.Word name) text more us rest m h k clear e cut = let b = token_begins (kinds.Word name) text k in r_alone m us more text rest h b.0 b.1 b.2 b.3 e cut
-at_raw (kinds.Keyword l) text more us rest m h k clear e cut = let b = token_begins (kinds.Keyword l) text k in r_alone m us more text rest h b.0 b.1 b.2 b.3 e cut
-at_raw (kinds.Number n) text more us rest m h k clear e cut = let b = begins_at (kinds.Number n) text more (Char m ∷ us) 114 k e in let d : IsInRange 48 57 114 = b.1 in absurd (omega arith)
-at_raw (kinds.Quoted t) text more us rest m h k clear e cut = raw_front (quoted_front text t more (sym e) (written text t k) clear)
-at_raw (kinds.Mark i) text more us rest m h k clear e cut = let b = begins_at (kinds.Mark i) text more (Char m ∷ us) 114 k e in let d : BeginsMark 114 = b.1 in absurd (omega arith)
-at_raw _ text more us rest m h k clear e cut = absurd k
+at_raw : (kind : TokenKind) (text : List ℕ) (more us : List Glyph) (m : ℕ) → IsMark m → Writes kind text → IsClear kind text more
+    → map Char text ++ more ≡ Char 114 ∷ Char m ∷ us → QuotedFront (Char 114 ∷ Char m ∷ us)
+at_raw (kinds.Word name) text more us m h k clear e = let b = token_begins (kinds.Word name) text k in absurd (r_alone m us more text h b.0 b.1 b.2 b.3 e clear.1)
+at_raw (kinds.Keyword l) text more us m h k clear e =
+    let b = token_begins (kinds.Keyword l) text k in
+    absurd (r_alone m us more text h b.0 b.1 b.2 b.3 e (λ same q. true≢false (sym (keyword_letters l) ∙ ap two_letters (sym k ∙ same))))
+at_raw (kinds.Number n) text more us m h k clear e = let b = begins_at (kinds.Number n) text more (Char m ∷ us) 114 k e in let d : IsInRange 48 57 114 = b.1 in absurd (omega arith)
+at_raw (kinds.Quoted t) text more us m h k clear e = quoted_front text t more (sym e) (written text t k) clear
+at_raw (kinds.Mark i) text more us m h k clear e = let b = begins_at (kinds.Mark i) text more (Char m ∷ us) 114 k e in let d : BeginsMark 114 = b.1 in absurd (omega arith)
+at_raw _ text more us m h k clear e = absurd k
 
 r_no_gap : IsGap 114 → ⊥
 r_no_gap g = omega arith
 
-from_raw : (us : List Glyph) (ps : List Piece) (m : ℕ) → IsMark m → TokenFront (Char 114 ∷ Char m ∷ us) ps → RawFront m us
-from_raw us ps m h (token_front kind text more rest e f k longest clear b) = at_raw kind text more us rest m h k clear (sym f) b
+from_raw : (us : List Glyph) (ps : List Piece) (m : ℕ) → IsMark m → TokenFront (Char 114 ∷ Char m ∷ us) ps → QuotedFront (Char 114 ∷ Char m ∷ us)
+from_raw us ps m h (token_front kind text more rest e f k longest clear) = at_raw kind text more us m h k clear (sym f)
 
-raw_here : (us : List Glyph) (ps : List Piece) (m : ℕ) → IsMark m → IsCut (Char 114 ∷ Char m ∷ us) ps [] → RawFront m us
-raw_here us ps m h cut = from_raw us ps m h (token_front_of 114 (Char m ∷ us) (Char 114 ∷ Char m ∷ us) ps refl r_no_gap cut)
+raw_here : (us : List Glyph) (ps : List Piece) (m : ℕ) → IsMark m → Front (Char 114 ∷ Char m ∷ us) ps → QuotedFront (Char 114 ∷ Char m ∷ us)
+raw_here us ps m h first = from_raw us ps m h (token_front_of 114 (Char m ∷ us) (Char 114 ∷ Char m ∷ us) ps refl r_no_gap first)
 
 -- ---- the string that is opened here
 
@@ -170,60 +166,42 @@ string_one r m us h alone (quoted_front text t more e w clear) = found_one r m (
 string_three : (r : Bool) (m : ℕ) (us : List Glyph) → IsMark m → QuotedFront (glyphs_opened r (Char m ∷ Char m ∷ Char m ∷ us)) → Found (three r m) (glyphs_opened r (Char m ∷ Char m ∷ Char m ∷ us))
 string_three r m us h (quoted_front text t more e w clear) = found_three r m (glyphs_opened r (Char m ∷ Char m ∷ Char m ∷ us)) us more text t h refl clear e w
 
--- what ends without `r` ends with it
-with_r_one : (m : ℕ) (us : List Glyph) → IsMark m → Found (one false m) (Char m ∷ us) → Found (one true m) (Char 114 ∷ Char m ∷ us)
-with_r_one m us h f = let b = raw_body (one false m) (h, inl refl) refl f.3 in (f.0, b.0, f.2, b.1, ap (λ t. Char 114 ∷ t) f.4)
-
-with_r_three : (m : ℕ) (us : List Glyph) → IsMark m → Found (three false m) (Char m ∷ us) → Found (three true m) (Char 114 ∷ Char m ∷ us)
-with_r_three m us h f = let b = raw_body (three false m) (h, inr refl) refl f.3 in (f.0, b.0, f.2, b.1, ap (λ t. Char 114 ∷ t) f.4)
-
-without_r : (m : ℕ) (us : List Glyph) → (BeginsWith (opening (three true m)) (Char 114 ∷ Char m ∷ us) → ⊥) → BeginsWith (opening (three false m)) (Char m ∷ us) → ⊥
-without_r m us alone b = alone (b.0, ap (λ t. Char 114 ∷ t) b.1)
-
-one_by : (m : ℕ) (us : List Glyph) → IsMark m → (BeginsWith (opening (three true m)) (Char 114 ∷ Char m ∷ us) → ⊥) → RawFront m us → Found (one true m) (Char 114 ∷ Char m ∷ us)
-one_by m us h alone (raw_front f) = string_one true m us h alone f
-one_by m us h alone (apart f) = with_r_one m us h (string_one false m us h (without_r m us alone) f)
-
-three_by : (m : ℕ) (us : List Glyph) → IsMark m → RawFront m (Char m ∷ Char m ∷ us) → Found (three true m) (Char 114 ∷ Char m ∷ Char m ∷ Char m ∷ us)
-three_by m us h (raw_front f) = string_three true m us h f
-three_by m us h (apart f) = with_r_three m (Char m ∷ Char m ∷ us) h (string_three false m us h f)
-
-here_one : (r : Bool) (m : ℕ) (us : List Glyph) (ps : List Piece) → IsMark m → (BeginsWith (opening (three r m)) (glyphs_opened r (Char m ∷ us)) → ⊥) → IsCut (glyphs_opened r (Char m ∷ us)) ps []
+here_one : (r : Bool) (m : ℕ) (us : List Glyph) (ps : List Piece) → IsMark m → (BeginsWith (opening (three r m)) (glyphs_opened r (Char m ∷ us)) → ⊥) → Front (glyphs_opened r (Char m ∷ us)) ps
     → Found (one r m) (glyphs_opened r (Char m ∷ us))
-here_one true m us ps h alone cut = one_by m us h alone (raw_here us ps m h cut)
-here_one false m us ps h alone cut = string_one false m us h alone (quoted_here us ps m h cut)
+here_one true m us ps h alone first = string_one true m us h alone (raw_here us ps m h first)
+here_one false m us ps h alone first = string_one false m us h alone (quoted_here us ps m h first)
 
-here_three : (r : Bool) (m : ℕ) (us : List Glyph) (ps : List Piece) → IsMark m → IsCut (glyphs_opened r (Char m ∷ Char m ∷ Char m ∷ us)) ps []
+here_three : (r : Bool) (m : ℕ) (us : List Glyph) (ps : List Piece) → IsMark m → Front (glyphs_opened r (Char m ∷ Char m ∷ Char m ∷ us)) ps
     → Found (three r m) (glyphs_opened r (Char m ∷ Char m ∷ Char m ∷ us))
-here_three true m us ps h cut = three_by m us h (raw_here (Char m ∷ Char m ∷ us) ps m h cut)
-here_three false m us ps h cut = string_three false m us h (quoted_here (Char m ∷ Char m ∷ us) ps m h cut)
+here_three true m us ps h first = string_three true m us h (raw_here (Char m ∷ Char m ∷ us) ps m h first)
+here_three false m us ps h first = string_three false m us h (quoted_here (Char m ∷ Char m ∷ us) ps m h first)
 
 counted : (q : Quote) (n : ℕ) → q.count ≡ n → q ≡ record { is_raw = q.is_raw; mark = q.mark; count = n }
 counted q n e = ap (λ n. record { is_raw = q.is_raw; mark = q.mark; count = n }) e
 
 -- where a string is opened, and what is left is cut to its end, the string stands there
 string_by : (q : Quote) (gs : List Glyph) (ps : List Piece) → IsMark q.mark → (q.count ≡ 1) ⊎ (q.count ≡ 3) → BeginsWith (opening q) gs
-    → (q.count ≡ 1 → BeginsWith (opening (three q.is_raw q.mark)) gs → ⊥) → IsCut gs ps [] → Found q gs
+    → (q.count ≡ 1 → BeginsWith (opening (three q.is_raw q.mark)) gs → ⊥) → Front gs ps → Found q gs
 string_by q gs ps h (inl e) begins alone cut =
     let same = counted q 1 e in
     let glyphs : gs ≡ glyphs_opened q.is_raw (Char q.mark ∷ begins.0) = begins.1 ∙ ap (λ t. map Char (opening t) ++ begins.0) same ∙ opened_one q.is_raw q.mark begins.0 in
     let P : List Glyph → Type 0 = λ t. BeginsWith (opening (three q.is_raw q.mark)) t → ⊥ in
-    let R : List Glyph → Type 0 = λ t. IsCut t ps [] in
+    let R : List Glyph → Type 0 = λ t. Front t ps in
     let S : List Glyph → Type 0 = λ t. Found (one q.is_raw q.mark) t in
     let T : Quote → Type 0 = λ t. Found t gs in
     subst T (sym same) (subst S (sym glyphs) (here_one q.is_raw q.mark begins.0 ps h (subst P glyphs (alone e)) (subst R glyphs cut)))
 string_by q gs ps h (inr e) begins alone cut =
     let same = counted q 3 e in
     let glyphs : gs ≡ glyphs_opened q.is_raw (Char q.mark ∷ Char q.mark ∷ Char q.mark ∷ begins.0) = begins.1 ∙ ap (λ t. map Char (opening t) ++ begins.0) same ∙ opened_three q.is_raw q.mark begins.0 in
-    let R : List Glyph → Type 0 = λ t. IsCut t ps [] in
+    let R : List Glyph → Type 0 = λ t. Front t ps in
     let S : List Glyph → Type 0 = λ t. Found (three q.is_raw q.mark) t in
     let T : Quote → Type 0 = λ t. Found t gs in
     subst T (sym same) (subst S (sym glyphs) (here_three q.is_raw q.mark begins.0 ps h (subst R glyphs cut)))
 
-pub string_here : (q : Quote) (gs : List Glyph) (ps : List Piece) → Opens q gs → IsCut gs ps [] → Found q gs
+pub string_here : (q : Quote) (gs : List Glyph) (ps : List Piece) → Opens q gs → Front gs ps → Found q gs
 string_here q gs ps h cut = string_by q gs ps h.0.0 h.0.1 h.1 h.2 cut
 
-pub unterminated_string : (before : List Piece) (gs ahead : List Glyph) (ps : List Piece) → IsCut gs ps [] → Breaks rules.UnterminatedString before gs ahead → ⊥
+pub unterminated_string : (before : List Piece) (gs ahead : List Glyph) (ps : List Piece) → Front gs ps → Breaks rules.UnterminatedString before gs ahead → ⊥
 unterminated_string before gs ahead ps cut k =
     let q = k.1.0 in
     let f = string_here q gs ps k.1.1 cut in

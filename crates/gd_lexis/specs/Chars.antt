@@ -1,5 +1,5 @@
 -- How the bytes of a file are read as characters, and where each stands (docs/language.md, "Characters, lines and columns").
-use Rattle.std.specs.Prelude.{◌≡◌, ℕ, ◌+◌, ◌==◌, Bool, true, false, not, ◌⊎◌, List, [], ◌∷◌, ◌++◌, reverse, count_by, encode_utf8}
+use Rattle.std.specs.Prelude.{◌≡◌, ℕ, ◌+◌, ◌==◌, Bool, false, not, ◌⊎◌, List, [], ◌∷◌, ◌++◌, reverse, count_by, encode_utf8}
 use Rattle.std.specs.List.{prefix_len}
 use Rattle.std.specs.Char.{IsScalar}
 use Rattle.std.specs.Str.{StartsWithNoChar}

@@ -1,19 +1,17 @@
 -- The lexical rules, each by the condition under which it is broken, and the first fault of a file (docs/diagnostics.md).
-use Rattle.std.specs.Prelude.{◌≡◌, ◌≢◌, ℕ, ◌+◌, ◌<◌, ◌≤◌, ◌^◌, ◌⊎◌, ◌||◌, ◌==◌, IsTrue, Bool, true, false, List, [], ◌∷◌, ◌++◌, length, map, All, slice_index, flat_map, filter}
-use Rattle.std.specs.List.{starts_with}
+use Rattle.std.specs.Prelude.{◌≡◌, ◌≢◌, ℕ, ◌+◌, ◌<◌, ◌≤◌, ◌^◌, ◌⊎◌, ◌||◌, ◌==◌, IsTrue, true, false, List, [], ◌∷◌, ◌++◌, length, map, All, slice_index, flat_map, filter}
 use Rattle.unicode_ident.specs.Ident.{is_xid_start}
 use Rattle.gd_syntax.specs.declared.pos.Pos.{Pos}
-use Rattle.gd_syntax.specs.declared.token.TokenKind.{TokenKind}
 use Rattle.gd_syntax.specs.declared.token.Mark.{Mark}
 use Rattle.gd_model.specs.declared.rule.Rule.{Rule}
 use Rattle.gd_model.specs.declared.rule.Rule.TheVariants as rules
 use Rattle.gd_lexis.specs.declared.glyph.Glyph.{Glyph}
 use Rattle.gd_lexis.specs.declared.glyph.Glyph.TheVariants.{Char, Bad}
 use Rattle.gd_lexis.specs.Chars.{IsFile, place_behind}
-use Rattle.gd_lexis.specs.Words.{IsFloatName, IsName, GoesOn, mark_text}
+use Rattle.gd_lexis.specs.Words.{IsFloatName, GoesOn, mark_text}
 use Rattle.gd_lexis.specs.Numbers.{WritesNumber, WritesDecimal, IsDigit}
 use Rattle.gd_lexis.specs.Strings.{Quote, IsQuote, opening, closing, IsEscape}
-use Rattle.gd_lexis.specs.Pieces.{Piece, Blank, IsCut, BeginsWith, BeginsBy, IsLineEnd, IsLongest, text_of}
+use Rattle.gd_lexis.specs.Pieces.{Piece, Blank, IsCut, BeginsWith, BeginsBy, IsLineEnd, IsLongest}
 use Rattle.gd_lexis.specs.Lines.{parted, is_logical, is_indentation, is_opening, is_closing, lead, depth, open_blocks, innermost, level, texts}
 use Rattle.gd_lexis.specs.Items.{items, is_separator, closed}
 use Rattle.gd_lexis.specs.Lexes.{IsMatched}

@@ -7,4 +7,5 @@ pub mod Lines
 pub mod Items
 pub mod Lexes
 pub mod Faults
+pub mod Faultless
 pub mod Trials

@@ -1,5 +1,5 @@
 -- Bracket levels, logical lines, and the blocks that they open and close (docs/language.md, "Brackets" and "Logical lines and blocks").
-use Rattle.std.specs.Prelude.{◌≡◌, ℕ, ◌+◌, ◌-◌, ◌==◌, ◌&&◌, ◌||◌, Bool, true, false, not, if◌then◌else◌, nat_le, nat_lt, List, [], ◌∷◌, ◌++◌, length, fold, filter, flat_map, replicate, slice_index}
+use Rattle.std.specs.Prelude.{ℕ, ◌+◌, ◌-◌, ◌==◌, ◌&&◌, ◌||◌, Bool, true, false, not, if◌then◌else◌, nat_le, nat_lt, List, [], ◌∷◌, ◌++◌, length, fold, filter, flat_map, replicate, slice_index}
 use Rattle.std.specs.List.{list_any, take_while}
 use Rattle.gd_syntax.specs.declared.pos.Pos.{Pos}
 use Rattle.gd_syntax.specs.declared.token.Token.{Token}
@@ -10,7 +10,7 @@ use Rattle.gd_syntax.specs.declared.token.Mark.TheVariants.{LeftParen, RightPare
 use Rattle.gd_lexis.specs.declared.glyph.Glyph.{Glyph}
 use Rattle.gd_lexis.specs.declared.glyph.Glyph.TheVariants.{Char}
 use Rattle.gd_lexis.specs.Chars.{place_behind}
-use Rattle.gd_lexis.specs.Pieces.{Piece, Blank, LineFeed, Join, Comment, Tok, text_of}
+use Rattle.gd_lexis.specs.Pieces.{Piece, Blank, LineFeed, Tok, text_of}
 
 abbrev pub is_token : Piece → Bool
 is_token (Tok kind text) = true

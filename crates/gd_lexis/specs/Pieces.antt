@@ -3,7 +3,6 @@ use Rattle.std.specs.Prelude.{◌≡◌, ◌≢◌, ℕ, pos, ◌<◌, ◌^◌, 
 use Rattle.gd_syntax.specs.declared.token.TokenKind.{TokenKind}
 use Rattle.gd_syntax.specs.declared.token.TokenKind.TheVariants as kinds
 use Rattle.gd_syntax.specs.declared.token.Keyword.{Keyword}
-use Rattle.gd_syntax.specs.declared.token.Mark.{Mark}
 use Rattle.gd_lexis.specs.declared.glyph.Glyph.{Glyph}
 use Rattle.gd_lexis.specs.declared.glyph.Glyph.TheVariants.{Char}
 use Rattle.gd_lexis.specs.Words.{IsName, IsFloatName, GoesOn, keyword_text, mark_text}

@@ -2,21 +2,23 @@
 //! specs/, and the functions here are laws about them.
 #![tactic(auto)]
 
-ghost use Rattle.std.specs.Prelude.{◌≡◌, List, length, ℕ, ◌*◌, ◌+◌, ◌≤◌};
+ghost use Rattle.std.specs.Prelude.{◌≡◌, List, [], length, ℕ, ◌*◌, ◌+◌, ◌≤◌, ◌⊎◌};
 ghost use Rattle.gd_syntax.specs.declared.token.Keyword.{Keyword};
 ghost use Rattle.gd_syntax.specs.declared.token.Mark.{Mark};
 ghost use Rattle.gd_lexis.specs.declared.glyph.Glyph.{Glyph};
-ghost use Rattle.gd_lexis.specs.Chars.{Reads};
+ghost use Rattle.gd_lexis.specs.Chars.{Reads, place_behind};
 ghost use Rattle.gd_syntax.specs.declared.pos.Pos.{Pos};
 ghost use Rattle.gd_model.specs.declared.rule.Rule.{Rule};
 ghost use Rattle.gd_lexis.specs.Words.{keyword_text, mark_text};
 ghost use Rattle.gd_lexis.specs.Numbers.{WritesNumber};
 ghost use Rattle.gd_lexis.specs.Strings.{WritesString};
 ghost use Rattle.gd_syntax.specs.declared.token.TokenKind.{TokenKind};
-ghost use Rattle.gd_lexis.specs.Pieces.{Writes};
+ghost use Rattle.gd_lexis.specs.Pieces.{Piece, Writes};
+ghost use Rattle.gd_lexis.specs.Lines.{texts};
 ghost use Rattle.gd_syntax.specs.declared.token.Token.{Token};
 ghost use Rattle.gd_lexis.specs.Lexes.{Lexes};
-ghost use Rattle.gd_lexis.specs.Faults.{FirstFault, IsBroken, number};
+ghost use Rattle.gd_lexis.specs.Faults.{Breaks, FirstFault, IsBefore, IsBroken, number};
+ghost use Rattle.gd_lexis.specs.Faultless.{IsFaultless};
 ghost use Rattle.gd_lexis.specs.Trials.{OneBracketed, OneComment, OneFloat, OneMark, OneMarked, OneName, OnePair, OneRaw, OneString, TwoBlocks};
 
 mod glyph;
@@ -70,6 +72,18 @@ pub fn one_token_list()
 /// A file with tokens breaks no rule.
 pub fn no_fault_beside_tokens()
     ensures { (file : ℕ) (bytes : List ℕ) (tokens : List Token) (rule : Rule) (at : Pos) → Lexes file bytes tokens → IsBroken file bytes rule at → ⊥ }
+{}
+
+/// Where what was read of a file keeps all bounds, no rule is broken before what is left.
+pub fn no_fault_before()
+    ensures { (file : ℕ) (bytes : List ℕ) (before : List Piece) (gs : List Glyph) (rule : Rule) (at : Pos) → IsFaultless bytes before gs → IsBroken file bytes rule at
+        → (at ≡ place_behind file (texts before)) ⊎ IsBefore (place_behind file (texts before)) at }
+{}
+
+/// There the least rule that is broken where what is left begins is the first fault of the file.
+pub fn first_fault_here()
+    ensures { (file : ℕ) (bytes : List ℕ) (before : List Piece) (gs : List Glyph) (rule : Rule) → IsFaultless bytes before gs → Breaks rule before gs []
+        → ((other : Rule) → Breaks other before gs [] → number rule ≤ number other) → FirstFault file bytes (place_behind file (texts before)) rule }
 {}
 
 /// A file has at most four tokens for each byte, and End.

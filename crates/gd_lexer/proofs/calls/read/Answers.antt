@@ -1,6 +1,11 @@
-use Rattle.gd_lexer.proofs.CutLemmas.{written_file}
+use Rattle.gd_lexer.proofs.EndLemmas.{file_laid}
 use Rattle.gd_lexer.proofs.calls.read.Goals as goal
 
-pub returns-in-Ok-clause-written : goal.returns-in-Ok-clause-written
-returns-in-Ok-clause-written c =
-    written_file c.args.file c.args.bytes.now c.new.result.cursor.glyphs c.in-Ok.whole.tokens.items c.new.ensures.read (c.in-Ok.ensures.written c.args.file c.new.result.cursor.glyphs c.new.ensures.holds)
+pub returns-in-Ok-clause-tokens : goal.returns-in-Ok-clause-tokens
+returns-in-Ok-clause-tokens c =
+    file_laid c.args.file c.args.bytes.now c.new.result.cursor.glyphs c.in-Ok.whole.tokens.items c.new.ensures.read (c.in-Ok.ensures.laid c.args.file c.new.result.cursor.glyphs c.new.ensures.holds)
+
+pub returns-in-Err-clause-first : goal.returns-in-Err-clause-first
+returns-in-Err-clause-first c =
+    c.answer.ensures.first c.args.file c.args.bytes.now
+    (c.in-Err.ensures.first c.args.file c.args.bytes.now c.new.result.cursor.glyphs c.new.ensures.read c.new.ensures.holds c.new.ensures.trails)

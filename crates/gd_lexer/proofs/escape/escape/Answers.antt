@@ -15,7 +15,7 @@ returns-in-Some-Bad-clause-value c =
     (λ h. h c.advance-in-Some-Bad.new.self
     ∙ escaped_bad c.args.cursor.now c.line_end.new.cursor c.advance-in-Some-Bad.new.self c.args.body.now c.pos-pos.result c.in-Some-Bad.field-0-0 (stays ∙ c.advance.ensures.value)
     (subst P (sym stays) none) (sym (c.in-Some-Bad.is ∙ ap (λ (g : Glyph). Some g) c.in-Some-Bad.field-0-is) ∙ c.peek.ensures.value) c.advance-in-Some-Bad.ensures.value c.pos-pos.ensures.value)
-    c.take.ensures
+    c.take.ensures.value
 
 pub returns-in-Some-Char-clause-value : goal.returns-in-Some-Char-clause-value
 returns-in-Some-Char-clause-value c =
@@ -26,4 +26,4 @@ returns-in-Some-Char-clause-value c =
     (λ h. h c.character-found.new.cursor
     ∙ escaped_char c.args.cursor.now c.line_end.new.cursor c.character-found.new.cursor c.args.body.now c.pos-pos.result c.in-Some-Char.c c.character-found.result (stays ∙ c.advance.ensures.value)
     (subst P (sym stays) none) (sym (c.in-Some-Char.is ∙ ap (λ (g : Glyph). Some g) c.in-Some-Char.field-0-is) ∙ c.peek.ensures.value) c.character-found.ensures.value c.character-found.ensures.at c.pos-pos.ensures.value)
-    c.take-in-Some-Char.ensures
+    c.take-in-Some-Char.ensures.value

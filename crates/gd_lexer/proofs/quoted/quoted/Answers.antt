@@ -1,9 +1,9 @@
-use Rattle.std.proofs.Common.{◌≡◌, sym, ◌∙◌, ap, subst, Bool}
+use Rattle.std.proofs.Common.{◌≡◌, sym, ◌∙◌, ap, subst, arith, Bool}
 use Rattle.std.specs.Prelude.{Option, Some, None}
 use Rattle.gd_lexer.specs.Cursor.{Spot}
 use Rattle.gd_lexer.specs.declared.quoted.Quote.{Quote}
 use Rattle.gd_lexer.specs.Escape.{Reading, reading_of, moved}
-use Rattle.gd_lexer.specs.Quoted.{Steps, end, open_end, closed, quote_of, opened}
+use Rattle.gd_lexer.specs.Quoted.{Steps, end, open_end}
 use Rattle.gd_lexer.proofs.FollowsLemmas.{Follows-trans}
 use Rattle.gd_lexer.proofs.QuotedLemmas.{step_more}
 use Rattle.gd_lexer.proofs.quoted.quoted.Goals as goal
@@ -22,6 +22,7 @@ returns-then-close-clause-value c =
 pub loop-glyph-preserved : goal.loop-glyph-preserved
 loop-glyph-preserved c = record {
   follows = Follows-trans _ _ _ c.loop-glyph.invariant.follows (Follows-trans _ _ _ c.close.ensures.follows c.in_ok-step.ensures.follows);
+  few = omega (arith, c.loop-glyph.invariant.few, c.in_ok-step.ensures.few, c.close.ensures.follows.fewer);
   steps = λ b t h.
       c.loop-glyph.invariant.steps b t
       (step_more c.open-quote.result c.loop-glyph.cursor c.close.new.cursor c.step.new.cursor c.loop-glyph.body c.step.new.body c.in-Some.glyph

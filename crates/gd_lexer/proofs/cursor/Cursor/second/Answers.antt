@@ -1,5 +1,5 @@
 use Rattle.std.proofs.Common.{ap, ◌∙◌, slice_get}
-use Rattle.gd_lexer.specs.Glyphs.{first_glyph, after_first}
+use Rattle.gd_lexer.specs.Glyphs.{first_glyph}
 use Rattle.gd_lexer.specs.Cursor.{Spot}
 use Rattle.gd_lexer.proofs.CursorLemmas.{glyph_1}
 use Rattle.gd_lexer.proofs.cursor.Cursor.second.Goals as goal

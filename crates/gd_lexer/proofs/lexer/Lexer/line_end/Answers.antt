@@ -1,21 +1,28 @@
-use Rattle.std.proofs.Common.{sym, ◌∙◌, ap, subst, refl}
+use Rattle.std.proofs.Common.{sym, ◌∙◌, ap, subst}
 use Rattle.gd_lexer.specs.declared.lines.Lines.{Lines}
 use Rattle.gd_lexer.specs.Cursor.{Spot}
-use Rattle.gd_lexer.specs.Cut.{IsCutTo}
-use Rattle.gd_lexer.proofs.QuotedLemmas.{on_ok}
-use Rattle.gd_lexer.proofs.CutLemmas.{feed_more}
+use Rattle.gd_lexer.specs.Follows.{Follows}
+use Rattle.gd_lexer.specs.Brackets.{items_of}
+use Rattle.gd_lexer.proofs.StepLemmas.{inner_feed_step, feed_step}
+use Rattle.std.proofs.lemmas.Result.{err_from_is_err_and}
+use Rattle.gd_lexer.proofs.FirstLemmas.{hidden_at_feed, stops_by_lines}
 use Rattle.gd_lexer.proofs.lexer.Lexer.line_end.Goals as goal
-
-pub returns-clause-reads : goal.returns-clause-reads
-returns-clause-reads c =
-    on_ok c.end.result _ _
-    (λ hidden file all holds none.
-    let P : Spot → Type 0 = λ t. IsCutTo file all c.newline.new.self.found.tokens t in
-    subst P (sym c.in_ok-newline.ensures.cursor)
-    (feed_more file all c.args.self.now.found.tokens c.newline.new.self.found.tokens c.args.self.now.cursor c.advance.new.self c.requires.head c.advance.ensures.rest c.advance.ensures.follows c.in_ok-newline.ensures.written
-    (holds (ap (λ (l : Lines). l.lead.hidden) (sym c.in_ok-newline.ensures.lines) ∙ hidden))))
-    c.end.ensures.hidden
 
 pub returns-then-is_inside-clause-reads : goal.returns-then-is_inside-clause-reads
 returns-then-is_inside-clause-reads c file all holds none =
-    feed_more file all c.args.self.now.found.tokens c.args.self.now.found.tokens c.args.self.now.cursor c.advance.new.self c.requires.head c.advance.ensures.rest c.advance.ensures.follows refl (holds none)
+    let old = c.args.self.now in
+    inner_feed_step file all old.cursor c.advance.new.self (items_of old.brackets) old.lines old.found.tokens (sym c.is_inside.ensures ∙ c.if-is_inside.true) c.requires.head c.advance.ensures.rest c.advance.ensures.follows (holds none)
+
+pub returns-clause-reads : goal.returns-clause-reads
+returns-clause-reads c file all holds none =
+    let old = c.args.self.now in
+    let P : Spot → Type 0 = λ s. Follows old.cursor s in
+    feed_step file all old.cursor c.newline.new.self.cursor (items_of old.brackets) (items_of c.newline.new.self.brackets) old.lines c.newline.new.self.lines c.end.new.self old.found.tokens c.newline.new.self.found.tokens
+    c.pos-pos.result c.pos-pos.ensures.value (sym c.is_inside.ensures ∙ c.if-is_inside.false) c.in_ok-newline.ensures.items c.newline.ensures.lines c.in_ok-end.ensures.open c.end.ensures.blocks c.end.ensures.kind
+    c.in_ok-end.ensures.lead c.in_ok-newline.ensures.newline c.requires.head (ap (λ (s : Spot). s.glyphs) c.newline.ensures.cursor ∙ c.advance.ensures.rest) (subst P (sym c.newline.ensures.cursor) c.advance.ensures.follows)
+    (holds (ap (λ (l : Lines). l.lead.hidden) (sym c.newline.ensures.lines) ∙ c.in_ok-end.ensures.hidden))
+
+pub returns-in_err-end-clause-first : goal.returns-in_err-end-clause-first
+returns-in_err-end-clause-first c =
+    let p = err_from_is_err_and c.from_residual-in_err-end.result c.from_residual-in_err-end.ensures.1 in
+    rw (p.1, p.2) (hidden_at_feed c.args.self.now _ c.requires.head (stops_by_lines c.args.self.now.lines c.newline.new.self.lines _ c.newline.ensures.lines c.in_err-end.ensures.put_off))

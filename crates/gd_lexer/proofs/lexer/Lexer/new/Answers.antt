@@ -1,8 +1,9 @@
-use Rattle.std.proofs.Common.{◌≡◌, ap, ◌∙◌, refl, arith, sym, inr}
+use Rattle.std.proofs.Common.{◌≡◌, ap, ◌∙◌, arith}
 use Rattle.gd_syntax.specs.declared.pos.Pos.{Pos}
-use Rattle.gd_lexer.specs.Follows.{IsAtMost}
+use Rattle.gd_lexer.specs.declared.lines.Lead.{Lead}
+use Rattle.gd_lexer.specs.Brackets.{items_of}
 use Rattle.gd_lexer.proofs.FollowsLemmas.{IsAtMost-same}
-use Rattle.gd_lexer.proofs.CutLemmas.{cut_start}
+use Rattle.gd_lexer.proofs.EndLemmas.{laid_start}
 use Rattle.gd_lexer.proofs.lexer.Lexer.new.Goals as goal
 
 pub returns-clause-sound : goal.returns-clause-sound
@@ -12,7 +13,14 @@ returns-clause-sound c =
       order = IsAtMost-same c.new-found.result.last c.new-cursor.result.pos same;
       file = ap (λ (p : Pos). p.file) same;
       few = rw (c.new-found.ensures.tokens, c.new.ensures.blocks, c.new.ensures.open) (omega arith);
+      kept = record {
+        settled = λ _. ap (λ (l : Lead). l.mixed) c.new.ensures.lead;
+        put_off = λ _. ap (λ (l : Lead). l.hidden) c.new.ensures.lead;
+        short = rw (ap (λ (l : Lead). l.level) c.new.ensures.lead) (omega arith);
+      };
     }
 
 pub returns-clause-holds : goal.returns-clause-holds
-returns-clause-holds c none = cut_start c.args.file c.new-cursor.result c.new-found.result.tokens c.new-found.ensures.tokens c.new-cursor.ensures.place
+returns-clause-holds c none =
+    laid_start c.args.file c.new-cursor.result (items_of c.new-2.result) c.new.result c.new-found.result.tokens c.new-cursor.ensures.place c.new-2.ensures c.new.ensures.open c.new.ensures.blocks c.new.ensures.kind c.new.ensures.lead
+    c.new-found.ensures.tokens

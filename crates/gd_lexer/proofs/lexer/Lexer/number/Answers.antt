@@ -1,4 +1,4 @@
-use Rattle.std.proofs.Common.{◌≡◌, ◌∙◌, sym, subst, refl, List}
+use Rattle.std.proofs.Common.{◌≡◌, ◌∙◌, sym, subst, List}
 use Rattle.std.specs.Prelude.{ℕ, ◌<◌, ◌^◌, Result, ℤ, pos, Ok, Err}
 use Rattle.std.proofs.Common.{arith}
 use mir.Val.{SFits, to_z, of_z}
@@ -37,5 +37,5 @@ returns-in-Ok-clause-token c =
 
 pub returns-in-Err-clause-fault : goal.returns-in-Err-clause-fault
 returns-in-Err-clause-fault c =
-    by_stop c.in-Err.rule c.args.pos c.args.self.now.cursor.glyphs c.stop_at.result c.stop_at.ensures
-    (met (Err c.in-Err.rule) _ c.args.self.now.cursor.glyphs c.number.new.cursor.glyphs _ (sym c.in-Err.is ∙ c.number.ensures.value) c.number.ensures.rest (number_read c.args.self.now.cursor.glyphs c.requires.starts))
+    let broken = met (Err c.in-Err.rule) _ c.args.self.now.cursor.glyphs c.number.new.cursor.glyphs _ (sym c.in-Err.is ∙ c.number.ensures.value) c.number.ensures.rest (number_read c.args.self.now.cursor.glyphs c.requires.starts) in
+    by_stop c.in-Err.rule c.args.pos c.args.self.now.cursor.glyphs c.stop_at.result c.stop_at.ensures broken.0 broken.1

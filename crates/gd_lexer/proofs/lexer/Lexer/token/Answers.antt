@@ -1,16 +1,64 @@
-use Rattle.std.proofs.Common.{sym, ◌∙◌, ap}
-use Rattle.gd_lexer.specs.declared.lines.Lines.{Lines}
-use Rattle.gd_lexer.specs.declared.lines.Lead.{Lead}
-use Rattle.gd_lexer.specs.Found.{FoundList}
-use Rattle.gd_lexer.specs.Cut.{written}
-use Rattle.gd_lexer.proofs.CutLemmas.{token_read}
+use Rattle.std.proofs.Common.{arith, rules}
+use Rattle.std.proofs.lemmas.Grind.{common_steps}
+use Rattle.gd_lexer.proofs.StepLemmas.{token_step, token_kept}
+use Rattle.std.proofs.Common.{◌∙◌}
+use Rattle.std.proofs.lemmas.Result.{err_from_is_err_and}
+use Rattle.gd_lexer.proofs.StrayLemmas.{token_starts}
+use Rattle.gd_lexer.proofs.TokenLemmas.{unopened_first, read_as, own_first, refused_first, deep_first, inner_first, some_inner}
 use Rattle.gd_lexer.proofs.lexer.Lexer.token.Goals as goal
+
+pub returns-clause-sound : goal.returns-clause-sound
+returns-clause-sound c =
+    let kept =
+    token_kept c.in_ok-deeper.deeper c.args.self.now c.open_line.new.self c.scan.new.self c.take.new.self c.deepen.new.self c.pos-pos.result c.in_ok-deeper.ensures.opens c.scan.ensures.keeps c.take.ensures.lines
+    c.in_ok-deepen.ensures.deeper (grind (arith, common_steps)) c.requires.sound.kept in
+    record {
+      order = search rules;
+      file = search rules;
+      few = grind (arith, common_steps);
+      kept = record { settled = kept.settled; put_off = kept.put_off; short = kept.short };
+    }
 
 pub returns-clause-reads : goal.returns-clause-reads
 returns-clause-reads c file all holds none =
-    let lead =
-    c.in_ok-deepen.ensures.hidden ∙ ap (λ (l : Lines). l.lead) c.take.ensures.lines ∙ ap (λ (l : Lines). l.lead) c.scan.ensures.lines ∙ c.in_ok-deeper.ensures.hidden in
-    let words = c.in_ok-deepen.ensures.written ∙ ap (λ (f : FoundList). written f.tokens) c.take.ensures.found ∙ ap (λ (f : FoundList). written f.tokens) c.scan.ensures.found ∙ c.in_ok-deeper.ensures.written in
-    token_read file all c.args.self.now.found.tokens c.deepen.new.self.found.tokens c.push.new.self.tokens c.args.self.now.cursor c.open_line.new.self.cursor c.scan.new.self.cursor c.deepen.new.self.cursor c.in_ok-kind.kind c.pos-pos.result
-    c.open_line.ensures.cursor (c.deepen.ensures.cursor ∙ c.take.ensures.cursor) c.scan.ensures.follows (holds (ap (λ (l : Lead). l.hidden) (sym lead) ∙ none)) (c.in_ok-kind.ensures.token c.in_default.is) c.pos-pos.ensures.value words
-    c.in_ok-push.ensures.tokens
+    token_step file all c.in_ok-deeper.deeper c.args.self.now c.open_line.new.self c.scan.new.self c.take.new.self c.deepen.new.self c.pos-pos.result c.in_ok-kind.kind c.push.new.self.tokens c.pos-pos.ensures.value
+    c.in_ok-deeper.ensures.opens c.open_line.ensures.cursor c.scan.ensures.keeps c.scan.ensures.follows (c.in_ok-kind.ensures.token c.in_default.is) c.take.ensures.cursor c.take.ensures.found c.take.ensures.lines
+    c.in_ok-take.ensures.items c.in_ok-take.ensures.room c.deepen.ensures.cursor c.in_ok-deepen.ensures.deeper c.in_ok-push.ensures.tokens none holds
+
+pub returns-in_err-deeper-clause-first : goal.returns-in_err-deeper-clause-first
+returns-in_err-deeper-clause-first c =
+    let old = c.args.self.now in
+    let p = err_from_is_err_and c.from_residual.result c.from_residual.ensures.1 in
+    rw (p.1, p.2) (unopened_first old c.pos-pos.result _ (token_starts old.cursor.glyphs c.args.start c.requires.starts) c.requires.sound.kept c.pos-pos.ensures.value c.in_err-deeper.ensures.fault)
+
+pub returns-in_err-kind-clause-first : goal.returns-in_err-kind-clause-first
+returns-in_err-kind-clause-first c =
+    let p = err_from_is_err_and c.from_residual-in_err-kind.result c.from_residual-in_err-kind.ensures.1 in
+    rw (p.1, p.2)
+    (own_first c.args.self.now c.open_line.new.self c.in_ok-deeper.deeper c.pos-pos.result _ c.requires.sound.kept c.in_ok-deeper.ensures.opens c.open_line.ensures.cursor c.pos-pos.ensures.value c.in_err-kind.ensures.fault)
+
+pub returns-in_err-take-clause-first : goal.returns-in_err-take-clause-first
+returns-in_err-take-clause-first c =
+    let old = c.args.self.now in
+    let new = c.open_line.new.self in
+    let p = err_from_is_err_and c.from_residual-in_err-take.result c.from_residual-in_err-take.ensures.1 in
+    let read = read_as c.in_ok-kind.kind old.cursor new.cursor c.scan.new.self.cursor.glyphs c.in_ok-kind.inner c.open_line.ensures.cursor c.in_ok-kind.ensures.token c.in_ok-kind.ensures.inner in
+    rw (p.1, p.2)
+    (refused_first old new c.scan.new.self c.in_ok-deeper.deeper c.pos-pos.result c.in_ok-kind.kind _ c.requires.sound.kept c.in_ok-deeper.ensures.opens c.scan.ensures.keeps.2 c.pos-pos.ensures.value read
+    c.in_err-take.ensures.refused)
+
+pub returns-in_err-deepen-clause-first : goal.returns-in_err-deepen-clause-first
+returns-in_err-deepen-clause-first c =
+    let old = c.args.self.now in
+    let new = c.open_line.new.self in
+    let p = err_from_is_err_and c.from_residual-in_err-deepen.result c.from_residual-in_err-deepen.ensures.1 in
+    let read = read_as c.in_ok-kind.kind old.cursor new.cursor c.scan.new.self.cursor.glyphs c.in_ok-kind.inner c.open_line.ensures.cursor c.in_ok-kind.ensures.token c.in_ok-kind.ensures.inner in
+    rw (p.1, p.2)
+    (deep_first old new c.take.new.self c.in_ok-deeper.deeper c.pos-pos.result c.in_ok-kind.kind _ c.requires.sound.kept c.in_ok-deeper.ensures.opens (c.take.ensures.lines ∙ c.scan.ensures.keeps.1) c.pos-pos.ensures.value read
+    c.in_err-deepen.ensures.fault)
+
+pub returns-in-Some-clause-first : goal.returns-in-Some-clause-first
+returns-in-Some-clause-first c =
+    inner_first c.args.self.now c.open_line.new.self c.scan.new.self c.take.new.self c.deepen.new.self c.in_ok-deeper.deeper c.pos-pos.result c.in_ok-kind.kind c.in-Some.fault c.requires.sound.kept
+    c.in_ok-deeper.ensures.opens c.open_line.ensures.cursor (c.take.ensures.lines ∙ c.scan.ensures.keeps.1) c.scan.ensures.keeps.2 c.in_ok-take.ensures.room c.in_ok-deepen.ensures.deeper
+    (some_inner c.in_ok-kind.kind c.open_line.new.self.cursor c.in_ok-kind.inner c.in-Some.fault c.in-Some.is c.in_ok-kind.ensures.inner)
