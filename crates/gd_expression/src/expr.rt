@@ -64,17 +64,31 @@ impl<F: Fn(&mut Cursor<'_>, Level) -> Result<Placed, Stop>> Rules<F> {
         requires within { left cursor.old ≤ self.now.limit }
         ensures { Takes cursor.old cursor.new result }
     {
-        let Placed { expr, first } = self.binary(cursor, least)?;
-        let expr = if least <= CHOICE {
-            self.choice(cursor, expr)?
-        } else {
-            expr
-        };
-        let expr = if least <= CAST {
-            casts(cursor, expr)?
-        } else {
-            expr
-        };
+        let value = self.binary(cursor, least);
+        // Most values end here, and are handed on without a move.
+        if value.is_err() || least > CHOICE || !goes_on(cursor) {
+            return value;
+        }
+        self.chosen_and_cast(cursor, least, value?)
+    }
+
+    /// What stands after a value of operators: `if c else y`, and each `as type`.
+    fn chosen_and_cast(
+        &self,
+        cursor: &mut Cursor<'_>,
+        least: Level,
+        value: Placed,
+    ) -> Result<Placed, Stop>
+        requires nests { NestsAt self.now.limit (F.pre self.now.part) (F.post self.now.part) }
+        requires within { left cursor.old ≤ self.now.limit }
+        ensures { Keeps cursor.old cursor.new }
+    {
+        let Placed { expr, first } = value;
+        let expr = self.choice(cursor, expr)?;
+        if least > CAST {
+            return Ok(Placed { expr, first });
+        }
+        let expr = casts(cursor, expr)?;
         Ok(Placed { expr, first })
     }
 
@@ -100,7 +114,25 @@ impl<F: Fn(&mut Cursor<'_>, Level) -> Result<Placed, Stop>> Rules<F> {
         requires within { left cursor.old ≤ self.now.limit }
         ensures { Takes cursor.old cursor.new result }
     {
-        let Placed { mut expr, first } = self.operand(cursor, least)?;
+        let operand = self.operand(cursor, least);
+        if operand.is_err() || next_infix(cursor, least).is_none() {
+            return operand;
+        }
+        self.operations(cursor, least, operand?)
+    }
+
+    /// An operand with the operators after it, of level `least` and tighter, and their right operands.
+    fn operations(
+        &self,
+        cursor: &mut Cursor<'_>,
+        least: Level,
+        operand: Placed,
+    ) -> Result<Placed, Stop>
+        requires nests { NestsAt self.now.limit (F.pre self.now.part) (F.post self.now.part) }
+        requires within { left cursor.old ≤ self.now.limit }
+        ensures { Keeps cursor.old cursor.new }
+    {
+        let Placed { mut expr, first } = operand;
         'operators: while let Some((level, infix)) = next_infix(cursor, least) {
             let pos = cursor.here();
             cursor.take();
@@ -155,7 +187,20 @@ impl<F: Fn(&mut Cursor<'_>, Level) -> Result<Placed, Stop>> Rules<F> {
         requires within { left cursor.old ≤ self.now.limit }
         ensures { Takes cursor.old cursor.new result }
     {
-        let Placed { mut expr, first } = self.primary(cursor)?;
+        let primary = self.primary(cursor);
+        if primary.is_err() || next_suffix(cursor).is_none() {
+            return primary;
+        }
+        self.suffixes(cursor, primary?)
+    }
+
+    /// An operand with each attribute, subscript and call after it.
+    fn suffixes(&self, cursor: &mut Cursor<'_>, operand: Placed) -> Result<Placed, Stop>
+        requires nests { NestsAt self.now.limit (F.pre self.now.part) (F.post self.now.part) }
+        requires within { left cursor.old ≤ self.now.limit }
+        ensures { Keeps cursor.old cursor.new }
+    {
+        let Placed { mut expr, first } = operand;
         'steps: while let Some(suffix) = next_suffix(cursor) {
             let pos = cursor.here();
             cursor.take();
@@ -269,9 +314,10 @@ impl<F: Fn(&mut Cursor<'_>, Level) -> Result<Placed, Stop>> Rules<F> {
             found.push(self.inner(cursor, CAST)?)?;
             if !cursor.eat(Mark::Comma) {
                 cursor.expect(close)?;
-                return Ok(found);
+                break;
             }
         }
+        found.shrink_to_fit();
         Ok(found)
     }
 
@@ -336,6 +382,11 @@ fn casts(cursor: &mut Cursor<'_>, value: Expr) -> Result<Expr, Stop>
     Ok(expr)
 }
 
+/// Whether `if` or `as` stands next.
+fn goes_on(cursor: &Cursor<'_>) -> bool {
+    cursor.sees_word(Keyword::If) || cursor.sees_word(Keyword::As)
+}
+
 /// The operator of level `least` or tighter that stands next.
 fn next_infix(cursor: &Cursor<'_>, least: Level) -> Option<(Level, Infix)>
     ensures level { IfSome result (λ found. found.0 < 16) }
@@ -354,6 +405,8 @@ fn next_prefix(cursor: &Cursor<'_>, least: Level) -> Option<(Level, Operator)>
     prefix_of(cursor.peek()?, least)
 }
 
+/// A step after an operand.
+#[derive(Clone, Copy, Debug, PartialEq, Eq)]
 enum Suffix {
     Attribute,
     Subscript,

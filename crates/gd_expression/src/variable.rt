@@ -106,5 +106,6 @@ pub fn parameters(cursor: &mut Cursor<'_>) -> Result<Seq<VarDecl>, Stop>
             break;
         }
     }
+    found.shrink_to_fit();
     Ok(Seq::of(found))
 }

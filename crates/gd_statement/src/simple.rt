@@ -10,23 +10,12 @@ use gd_syntax::{Keyword, Mark, StmtKind, TokenKind};
 pub fn simple(cursor: &mut Cursor<'_>) -> Result<StmtKind, Stop>
     ensures { Takes cursor.old cursor.new result }
 {
-    let Some(word) = first_word(cursor) else {
-        return expression_statement(cursor);
-    };
-    match word {
-        Keyword::Pass => single(cursor, StmtKind::Pass),
-        Keyword::Break => single(cursor, StmtKind::Break),
-        Keyword::Continue => single(cursor, StmtKind::Continue),
-        Keyword::Return => return_statement(cursor),
-        Keyword::Var => {
-            cursor.take();
-            Ok(StmtKind::Local(named(cursor, Role::Local)?.0))
-        }
-        Keyword::Const => {
-            cursor.take();
-            Ok(StmtKind::LocalConst(named(cursor, Role::Constant)?.0))
-        }
-        Keyword::Assert => assertion(cursor),
+    match first_word(cursor) {
+        Some(Keyword::Pass | Keyword::Break | Keyword::Continue) => single(cursor),
+        Some(Keyword::Return) => return_statement(cursor),
+        Some(Keyword::Var) => local(cursor),
+        Some(Keyword::Const) => local_constant(cursor),
+        Some(Keyword::Assert) => assertion(cursor),
         _ => expression_statement(cursor),
     }
 }
@@ -41,13 +30,34 @@ fn first_word(cursor: &Cursor<'_>) -> Option<Keyword>
     }
 }
 
-/// A statement of one token.
-fn single(cursor: &mut Cursor<'_>, kind: StmtKind) -> Result<StmtKind, Stop>
-    requires { 0 < left cursor.old }
+/// `pass`, `break` or `continue`
+fn single(cursor: &mut Cursor<'_>) -> Result<StmtKind, Stop>
     ensures { Takes cursor.old cursor.new result }
 {
-    cursor.take();
-    Ok(kind)
+    if cursor.eat_word(Keyword::Pass) {
+        return Ok(StmtKind::Pass);
+    }
+    if cursor.eat_word(Keyword::Break) {
+        return Ok(StmtKind::Break);
+    }
+    cursor.expect_word(Keyword::Continue)?;
+    Ok(StmtKind::Continue)
+}
+
+/// `var NAME ..`
+fn local(cursor: &mut Cursor<'_>) -> Result<StmtKind, Stop>
+    ensures { Takes cursor.old cursor.new result }
+{
+    cursor.expect_word(Keyword::Var)?;
+    Ok(StmtKind::Local(named(cursor, Role::Local)?.0))
+}
+
+/// `const NAME ..`
+fn local_constant(cursor: &mut Cursor<'_>) -> Result<StmtKind, Stop>
+    ensures { Takes cursor.old cursor.new result }
+{
+    cursor.expect_word(Keyword::Const)?;
+    Ok(StmtKind::LocalConst(named(cursor, Role::Constant)?.0))
 }
 
 /// `return [expr]`

@@ -44,6 +44,7 @@ pub fn line(cursor: &mut Cursor<'_>) -> Result<Vec<Stmt>, Stop>
             found.push(plain(cursor)?)?;
         }
     }
+    found.shrink_to_fit();
     Ok(found)
 }
 
@@ -91,6 +92,7 @@ impl<F: Fn(&mut Cursor<'_>) -> Result<Vec<Stmt>, Stop>> Rules<F> {
         'statements: while !cursor.eat_edge(Edge::Dedent) {
             found.push(self.statement(cursor)?)?;
         }
+        found.shrink_to_fit();
         Ok(found)
     }
 
@@ -199,6 +201,7 @@ impl<F: Fn(&mut Cursor<'_>) -> Result<Vec<Stmt>, Stop>> Rules<F> {
         'branches: while !cursor.eat_edge(Edge::Dedent) {
             found.push(self.branch(cursor)?)?;
         }
+        found.shrink_to_fit();
         Ok(found)
     }
 
