@@ -12,7 +12,7 @@ use crate::print::text_of;
 use crate::texts::formatted;
 use gd_containers::{Look, ThingFault};
 use gd_model::{RunFault, Value};
-use gd_syntax::Text;
+use gd_syntax::{Text, TextFault};
 use gd_text::Arg;
 use std::alloc::Global;
 
@@ -129,7 +129,8 @@ fn empty(alloc: Global) -> Result<Text, ThingFault>
 {
     match Text::of(Vec::new(alloc)) {
         Ok(text) => Ok(text),
-        Err(_) => Err(ThingFault::NoMemory),
+        Err(TextFault::NoMemory) => Err(ThingFault::NoMemory),
+        Err(_) => unreachable!(),
     }
 }
 

@@ -1,0 +1,250 @@
+//! What the tests share: values written short, the things of a run, and what a call gave.
+use crate::{Builtin, Fresh, apply, call_builtin, is_same};
+use gd_containers::{Look, OrderedDict, ThingFault, TypedArray, key_of};
+use gd_model::{RunFault, Ty, Value};
+use gd_syntax::{Operator, Text};
+use slot_arena::Handle;
+use std::alloc::Global;
+use std::test::Fail;
+
+/// The things and the class names of a run. The serial number of a handle is the place of its thing in the list that
+/// the index names: 0 the arrays, 1 the dictionaries, 2 the objects by their classes.
+#[derive(Drop)]
+pub struct Store {
+    pub arrays: Vec<TypedArray>,
+    pub dicts: Vec<OrderedDict>,
+    pub objects: Vec<u32>,
+    pub names: Vec<Text>,
+}
+
+impl Look for Store {
+    ghost use Rattle.std.specs.Prelude.{[], option_map, slice_get, ◌==◌, if◌then◌else◌};
+    ghost use Rattle.gd_model.specs.Store.{array, dict, object};
+
+    ghost things = { λ s h. if h.index == 0 then option_map array (slice_get s.arrays.items h.serial) else (if h.index == 1 then option_map dict (slice_get s.dicts.items h.serial) else option_map (λ class. object class []) (slice_get s.objects.items h.serial)) };
+
+    ghost names = { λ s n. slice_get s.names.items n };
+
+    fn array(&self, h: Handle) -> Option<&TypedArray> {
+        if h.index == 0 {
+            self.arrays.get(h.serial as usize)
+        } else {
+            None
+        }
+    }
+
+    fn dict(&self, h: Handle) -> Option<&OrderedDict> {
+        if h.index == 1 {
+            self.dicts.get(h.serial as usize)
+        } else {
+            None
+        }
+    }
+
+    fn class_of(&self, h: Handle) -> Option<u32> {
+        if h.index == 0 || h.index == 1 {
+            None
+        } else {
+            self.objects.get(h.serial as usize).copied()
+        }
+    }
+
+    fn class_name(&self, class: u32) -> Option<&Text> {
+        self.names.get(class as usize)
+    }
+}
+
+/// A value as a table writes it.
+#[derive(Clone, Copy)]
+pub enum Short {
+    Nil,
+    Bool(bool),
+    Int(i64),
+    Str(&'static str),
+    Object(u64),
+    Array(u64),
+    Dict(u64),
+}
+
+pub fn text(alloc: Global, chars: &str) -> Result<Text, Fail> {
+    Ok(Text::from_utf8(alloc, chars.as_bytes())?)
+}
+
+pub fn value(alloc: Global, short: Short) -> Result<Value, Fail> {
+    Ok(match short {
+        Short::Nil => Value::Nil,
+        Short::Bool(b) => Value::Bool(b),
+        Short::Int(n) => Value::Int(n),
+        Short::Str(chars) => Value::Str(text(alloc, chars)?),
+        Short::Object(serial) => Value::Object(Handle { index: 2, serial }),
+        Short::Array(serial) => Value::Array(Handle { index: 0, serial }),
+        Short::Dict(serial) => Value::Dict(Handle { index: 1, serial }),
+    })
+}
+
+pub fn values(alloc: Global, shorts: &[Short]) -> Result<Vec<Value>, Fail> {
+    let mut all = Vec::new(alloc);
+    for short in shorts {
+        all.push(value(alloc, *short)?)?;
+    }
+    Ok(all)
+}
+
+/// A writable array of these elements.
+pub fn array_of(alloc: Global, element: Ty, items: &[Short]) -> Result<TypedArray, Fail> {
+    let mut array = TypedArray::new(alloc, element, false);
+    for item in items {
+        array.push(value(alloc, *item)?, true)?;
+    }
+    Ok(array)
+}
+
+/// A writable dictionary into which these pairs were put in turn.
+pub fn dict_of(alloc: Global, pairs: &[(Short, Short)]) -> Result<OrderedDict, Fail> {
+    let mut dict = OrderedDict::new(alloc, false);
+    for (key, v) in pairs {
+        let key = key_of(&value(alloc, *key)?)?;
+        dict.put(key, value(alloc, *v)?, true)?;
+    }
+    Ok(dict)
+}
+
+/// The arrays `[]`, `[1, 2, 3, 2]` of ints twice, the second time read-only, and `[1, "a", null]`.
+fn arrays(alloc: Global) -> Result<Vec<TypedArray>, Fail> {
+    let ints = [Short::Int(1), Short::Int(2), Short::Int(3), Short::Int(2)];
+    let mixed = [Short::Int(1), Short::Str("a"), Short::Nil];
+    let mut all = Vec::new(alloc);
+    all.push(array_of(alloc, Ty::Variant, &[])?)?;
+    all.push(array_of(alloc, Ty::Int, &ints)?)?;
+    let mut fixed = array_of(alloc, Ty::Int, &ints)?;
+    fixed.fix();
+    all.push(fixed)?;
+    all.push(array_of(alloc, Ty::Variant, &mixed)?)?;
+    Ok(all)
+}
+
+/// The dictionaries `{}`, `{"a": 1, 2: 3}` and `{2: 3, "a": 1}`, the last one read-only.
+fn dicts(alloc: Global) -> Result<Vec<OrderedDict>, Fail> {
+    let a = (Short::Str("a"), Short::Int(1));
+    let two = (Short::Int(2), Short::Int(3));
+    let mut all = Vec::new(alloc);
+    all.push(dict_of(alloc, &[])?)?;
+    all.push(dict_of(alloc, &[a, two])?)?;
+    let mut fixed = dict_of(alloc, &[two, a])?;
+    fixed.fix();
+    all.push(fixed)?;
+    Ok(all)
+}
+
+/// These arrays and dictionaries, and one object, of a class `N`.
+pub fn things(alloc: Global) -> Result<Store, Fail> {
+    let mut names = Vec::new(alloc);
+    names.push(text(alloc, "N")?)?;
+    let mut objects = Vec::new(alloc);
+    objects.push(0)?;
+    Ok(Store {
+        arrays: arrays(alloc)?,
+        dicts: dicts(alloc)?,
+        objects,
+        names,
+    })
+}
+
+/// A run with these arrays alone.
+pub fn only_arrays(alloc: Global, arrays: Vec<TypedArray>) -> Store {
+    Store {
+        arrays,
+        dicts: Vec::new(alloc),
+        objects: Vec::new(alloc),
+        names: Vec::new(alloc),
+    }
+}
+
+/// What a call is to give.
+#[derive(Clone, Copy)]
+pub enum Want {
+    Value(Short),
+    /// An array of these elements.
+    Items(&'static [Short]),
+    Fault(RunFault),
+}
+
+pub fn is(alloc: Global, v: &Value, want: Short) -> Result<bool, Fail> {
+    Ok(is_same(v, &value(alloc, want)?))
+}
+
+pub fn are(alloc: Global, items: &[Value], wanted: &[Short]) -> Result<bool, Fail> {
+    if items.len() != wanted.len() {
+        return Ok(false);
+    }
+    for i in 0..items.len() {
+        if !is(alloc, &items[i], wanted[i])? {
+            return Ok(false);
+        }
+    }
+    Ok(true)
+}
+
+/// Whether the call gave what was wanted; want of memory never is.
+pub fn gave(alloc: Global, made: Result<Fresh, ThingFault>, want: Want) -> Result<bool, Fail> {
+    match (made, want) {
+        (Ok(Fresh::Value(v)), Want::Value(short)) => is(alloc, &v, short),
+        (Ok(Fresh::Array(a)), Want::Items(items)) => are(alloc, a.items(), items),
+        (Err(ThingFault::Run(fault)), Want::Fault(wanted)) => Ok(fault == wanted),
+        _ => Ok(false),
+    }
+}
+
+/// Whether the call gave a writable array with this element type.
+pub fn gave_writable(made: &Result<Fresh, ThingFault>, element: &Ty) -> bool {
+    match made {
+        Ok(Fresh::Array(a)) => !a.fixed() && a.element().same(element),
+        _ => false,
+    }
+}
+
+/// A call of a builtin with its arguments, and what it is to give.
+#[derive(Clone, Copy)]
+pub struct Call(pub Builtin, pub &'static [Short], pub Want);
+
+/// The place of the first call that gave something else.
+pub fn first_wrong(alloc: Global, calls: &[Call], store: &Store) -> Result<Option<usize>, Fail> {
+    for i in 0..calls.len() {
+        let Call(builtin, args, want) = calls[i];
+        let args = values(alloc, args)?;
+        let made = call_builtin(alloc, builtin, args.as_slice(), store);
+        if !gave(alloc, made, want)? {
+            return Ok(Some(i));
+        }
+    }
+    Ok(None)
+}
+
+/// An operator with its operands, and what it is to give.
+#[derive(Clone, Copy)]
+pub struct Use(pub Operator, pub Short, pub Short, pub Want);
+
+/// The place of the first use that gave something else.
+pub fn first_wrong_use(alloc: Global, uses: &[Use], store: &Store) -> Result<Option<usize>, Fail> {
+    for i in 0..uses.len() {
+        let Use(op, a, b, want) = uses[i];
+        let made = applied(alloc, op, a, b, store)?;
+        if !gave(alloc, made, want)? {
+            return Ok(Some(i));
+        }
+    }
+    Ok(None)
+}
+
+/// The operator on two values.
+pub fn applied(
+    alloc: Global,
+    op: Operator,
+    a: Short,
+    b: Short,
+    store: &Store,
+) -> Result<Result<Fresh, ThingFault>, Fail> {
+    let a = value(alloc, a)?;
+    let b = value(alloc, b)?;
+    Ok(apply(alloc, op, &a, &b, store))
+}
