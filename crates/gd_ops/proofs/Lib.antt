@@ -7,3 +7,5 @@ pub mod Pairs
 pub mod Operands
 pub mod KnownTypes
 pub mod Ranges
+pub mod BuiltinTable
+pub mod OperatorTable

@@ -10,3 +10,5 @@ pub mod Methods
 pub mod Texts
 pub mod Values
 pub mod Printed
+pub mod BuiltinRows
+pub mod OperatorRows

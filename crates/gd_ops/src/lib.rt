@@ -4,6 +4,7 @@
 mod arguments;
 mod array_methods;
 mod builtin;
+mod builtin_rows;
 mod dict_methods;
 mod equality;
 mod fresh;
@@ -23,6 +24,7 @@ mod text_methods;
 mod texts;
 
 pub use builtin::{Builtin, call_builtin};
+pub use builtin_rows::{BuiltinRow, Param, Returned, builtin_named, builtin_numbered, builtin_row};
 pub use equality::{is_same, same};
 pub use fresh::Fresh;
 pub use kind::{Kind, kind_of, kind_of_type};

@@ -8,4 +8,5 @@ mod operators;
 mod refusals;
 mod rows;
 mod strings;
+mod tables;
 mod values;
