@@ -373,6 +373,7 @@ fn casts(cursor: &mut Cursor<'_>, value: Expr) -> Result<Expr, Stop>
     'casts: while cursor.sees_word(Keyword::As) {
         let pos = cursor.expect_word(Keyword::As)?;
         let typed = type_name(cursor)?;
+        let typed = Boxed::new(cursor.alloc, typed)?;
         let value = Boxed::new(cursor.alloc, expr)?;
         expr = Expr {
             pos,
@@ -431,6 +432,7 @@ fn test(cursor: &mut Cursor<'_>, pos: Pos, value: Expr) -> Result<Expr, Stop>
 {
     let negated = cursor.eat_word(Keyword::Not);
     let typed = type_name(cursor)?;
+    let typed = Boxed::new(cursor.alloc, typed)?;
     let kind = ExprKind::Test(Boxed::new(cursor.alloc, value)?, typed, negated);
     Ok(Expr { pos, kind })
 }
@@ -485,7 +487,7 @@ fn attribute(cursor: &mut Cursor<'_>, base: Expr) -> Result<Expr, Stop>
 }
 
 /// `(` or `.NAME(`, after the word `super` at `first`: the place of the call and the name.
-fn super_name(cursor: &mut Cursor<'_>, first: Pos) -> Result<(Pos, Option<Text>), Stop>
+fn super_name(cursor: &mut Cursor<'_>, first: Pos) -> Result<(Pos, Option<Boxed<Text>>), Stop>
     ensures { Takes cursor.old cursor.new result }
 {
     if !cursor.eat(Mark::Dot) {
@@ -494,7 +496,7 @@ fn super_name(cursor: &mut Cursor<'_>, first: Pos) -> Result<(Pos, Option<Text>)
     }
     let (name, pos) = cursor.name()?;
     cursor.expect(Mark::LeftParen)?;
-    Ok((pos, Some(name)))
+    Ok((pos, Some(Boxed::new(cursor.alloc, name)?)))
 }
 
 /// `NAME =`, as the key of a pair.

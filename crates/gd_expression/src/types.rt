@@ -27,8 +27,8 @@ pub fn type_name(cursor: &mut Cursor<'_>) -> Result<TypeName, Stop>
 fn dotted(cursor: &mut Cursor<'_>) -> Result<Seq<Text>, Stop>
     ensures { Takes cursor.old cursor.new result }
 {
-    let mut names = Vec::new(cursor.alloc);
     let (first, _) = cursor.name()?;
+    let mut names = Vec::with_capacity(cursor.alloc, 1)?;
     names.push(first)?;
     'names: while cursor.eat(Mark::Dot) {
         let (name, _) = cursor.name()?;

@@ -5,13 +5,13 @@ ghost use Rattle.gd_cursor.specs.Cursor.{left, Keeps, Takes};
 use gd_cursor::{Cursor, Edge, Stop};
 use gd_statement::block;
 use gd_syntax::{Accessor, Mark};
-use sqlite_items::Items;
+use sqlite_items::{Boxed, Items};
 
 /// The accessors found so far.
 #[derive(Drop)]
 pub struct Accessors {
-    pub setter: Option<Accessor>,
-    pub getter: Option<Accessor>,
+    pub setter: Option<Boxed<Accessor>>,
+    pub getter: Option<Boxed<Accessor>>,
 }
 
 impl Accessors {
@@ -96,7 +96,7 @@ fn sees_getter(cursor: &Cursor<'_>, found: &Accessors) -> bool
 }
 
 /// A setter of a block of accessors, from the word `set` on.
-fn setter(cursor: &mut Cursor<'_>) -> Result<Accessor, Stop>
+fn setter(cursor: &mut Cursor<'_>) -> Result<Boxed<Accessor>, Stop>
     requires { 0 < left cursor.old }
     ensures { Takes cursor.old cursor.new result }
 {
@@ -112,11 +112,12 @@ fn setter(cursor: &mut Cursor<'_>) -> Result<Accessor, Stop>
     cursor.expect(Mark::Colon)?;
     let body = Items::from_vec(block(cursor)?);
     let tokens = cursor.taken_since(before);
-    Ok(Accessor::Body(Some(name), body, place, tokens))
+    let accessor = Accessor::Body(Some(name), body, place, tokens);
+    Ok(Boxed::new(cursor.alloc, accessor)?)
 }
 
 /// A getter of a block of accessors, from the word `get` on.
-fn getter(cursor: &mut Cursor<'_>) -> Result<Accessor, Stop>
+fn getter(cursor: &mut Cursor<'_>) -> Result<Boxed<Accessor>, Stop>
     requires { 0 < left cursor.old }
     ensures { Takes cursor.old cursor.new result }
 {
@@ -129,11 +130,12 @@ fn getter(cursor: &mut Cursor<'_>) -> Result<Accessor, Stop>
     cursor.expect(Mark::Colon)?;
     let body = Items::from_vec(block(cursor)?);
     let tokens = cursor.taken_since(before);
-    Ok(Accessor::Body(None, body, place, tokens))
+    let accessor = Accessor::Body(None, body, place, tokens);
+    Ok(Boxed::new(cursor.alloc, accessor)?)
 }
 
 /// `"=" NAME [","] {NL}`, after the word.
-fn listed(cursor: &mut Cursor<'_>) -> Result<Accessor, Stop>
+fn listed(cursor: &mut Cursor<'_>) -> Result<Boxed<Accessor>, Stop>
     ensures { Takes cursor.old cursor.new result }
 {
     let accessor = function(cursor)?;
@@ -143,10 +145,10 @@ fn listed(cursor: &mut Cursor<'_>) -> Result<Accessor, Stop>
 }
 
 /// `"=" NAME`, after the word.
-fn function(cursor: &mut Cursor<'_>) -> Result<Accessor, Stop>
+fn function(cursor: &mut Cursor<'_>) -> Result<Boxed<Accessor>, Stop>
     ensures { Takes cursor.old cursor.new result }
 {
     cursor.expect(Mark::Equal)?;
     let (name, pos) = cursor.name()?;
-    Ok(Accessor::Named(name, pos))
+    Ok(Boxed::new(cursor.alloc, Accessor::Named(name, pos))?)
 }

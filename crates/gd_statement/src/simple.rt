@@ -5,6 +5,7 @@ ghost use Rattle.gd_cursor.specs.Cursor.{left, Takes};
 use gd_cursor::{Cursor, Edge, Stop};
 use gd_expression::{Assignment, Role, assignment_of, expression, named};
 use gd_syntax::{Keyword, Mark, StmtKind, TokenKind};
+use sqlite_items::Boxed;
 
 /// A statement that holds no block, without what ends it.
 pub fn simple(cursor: &mut Cursor<'_>) -> Result<StmtKind, Stop>
@@ -49,7 +50,8 @@ fn local(cursor: &mut Cursor<'_>) -> Result<StmtKind, Stop>
     ensures { Takes cursor.old cursor.new result }
 {
     cursor.expect_word(Keyword::Var)?;
-    Ok(StmtKind::Local(named(cursor, Role::Local)?.0))
+    let declared = named(cursor, Role::Local)?.0;
+    Ok(StmtKind::Local(Boxed::new(cursor.alloc, declared)?))
 }
 
 /// `const NAME ..`
@@ -57,7 +59,8 @@ fn local_constant(cursor: &mut Cursor<'_>) -> Result<StmtKind, Stop>
     ensures { Takes cursor.old cursor.new result }
 {
     cursor.expect_word(Keyword::Const)?;
-    Ok(StmtKind::LocalConst(named(cursor, Role::Constant)?.0))
+    let declared = named(cursor, Role::Constant)?.0;
+    Ok(StmtKind::LocalConst(Boxed::new(cursor.alloc, declared)?))
 }
 
 /// `return [expr]`

@@ -7,7 +7,7 @@ use crate::simple::simple;
 use gd_cursor::{Cursor, Edge, Stop};
 use gd_expression::{expression, notes, pattern, type_name};
 use gd_syntax::{Branch, Expr, Keyword, Mark, Pattern, Seq, Stmt, StmtKind, TypeName};
-use sqlite_items::Items;
+use sqlite_items::{Boxed, Items};
 
 /// `block = NL Indent stmt {stmt} Dedent | simple {";" simple} [";"] NL`
 pub fn block(cursor: &mut Cursor<'_>) -> Result<Vec<Stmt>, Stop>
@@ -36,7 +36,7 @@ fn nested(cursor: &mut Cursor<'_>) -> Result<Vec<Stmt>, Stop>
 pub fn line(cursor: &mut Cursor<'_>) -> Result<Vec<Stmt>, Stop>
     ensures { Takes cursor.old cursor.new result }
 {
-    let mut found = Vec::new(cursor.alloc);
+    let mut found = Vec::with_capacity(cursor.alloc, 1)?;
     found.push(plain(cursor)?)?;
     'simple: while !cursor.eat_edge(Edge::Newline) {
         cursor.expect(Mark::Semicolon)?;
@@ -60,6 +60,14 @@ fn plain(cursor: &mut Cursor<'_>) -> Result<Stmt, Stop>
         notes: Seq::of(Vec::new(cursor.alloc)),
         kind,
     })
+}
+
+/// The value, where a statement ends after it.
+fn ended<T: Drop>(cursor: &mut Cursor<'_>, value: T) -> Result<T, Stop>
+    ensures { Takes cursor.old cursor.new result }
+{
+    cursor.end()?;
+    Ok(value)
 }
 
 /// The rules of statements. They read the blocks inside by `block`, so that each is proved by itself.
@@ -87,7 +95,8 @@ impl<F: Fn(&mut Cursor<'_>) -> Result<Vec<Stmt>, Stop>> Rules<F> {
         requires within { left cursor.old ≤ self.now.limit }
         ensures { Takes cursor.old cursor.new result }
     {
-        let mut found = Vec::new(cursor.alloc);
+        // Most blocks have one statement.
+        let mut found = Vec::with_capacity(cursor.alloc, 1)?;
         found.push(self.statement(cursor)?)?;
         'statements: while !cursor.eat_edge(Edge::Dedent) {
             found.push(self.statement(cursor)?)?;
@@ -123,8 +132,7 @@ impl<F: Fn(&mut Cursor<'_>) -> Result<Vec<Stmt>, Stop>> Rules<F> {
             return self.if_statement(cursor);
         }
         if cursor.eat_word(Keyword::While) {
-            let (condition, body) = self.guarded(cursor)?;
-            return Ok(StmtKind::While(condition, body));
+            return self.while_loop(cursor);
         }
         if cursor.eat_word(Keyword::For) {
             return self.for_loop(cursor);
@@ -133,8 +141,17 @@ impl<F: Fn(&mut Cursor<'_>) -> Result<Vec<Stmt>, Stop>> Rules<F> {
             return self.match_statement(cursor);
         }
         let kind = simple(cursor)?;
-        cursor.end()?;
-        Ok(kind)
+        ended(cursor, kind)
+    }
+
+    /// `expr ":" block`, after `while`.
+    fn while_loop(&self, cursor: &mut Cursor<'_>) -> Result<StmtKind, Stop>
+        requires nests { Nests self.now.limit (F.pre self.now.block) (F.post self.now.block) }
+        requires within { left cursor.old ≤ self.now.limit }
+        ensures { Takes cursor.old cursor.new result }
+    {
+        let (condition, body) = self.guarded(cursor)?;
+        Ok(StmtKind::While(condition, body))
     }
 
     /// `expr ":" block`
@@ -241,20 +258,21 @@ fn indent(cursor: &mut Cursor<'_>) -> Result<(), Stop>
 }
 
 /// `[":" type]` of a loop's variable.
-fn loop_type(cursor: &mut Cursor<'_>) -> Result<Option<TypeName>, Stop>
+fn loop_type(cursor: &mut Cursor<'_>) -> Result<Option<Boxed<TypeName>>, Stop>
     ensures { Keeps cursor.old cursor.new }
 {
     if !cursor.eat(Mark::Colon) {
         return Ok(None);
     }
-    Ok(Some(type_name(cursor)?))
+    let typed = type_name(cursor)?;
+    Ok(Some(Boxed::new(cursor.alloc, typed)?))
 }
 
 /// `pat {"," pat}`
 fn alternatives(cursor: &mut Cursor<'_>) -> Result<Seq<Pattern>, Stop>
     ensures { Takes cursor.old cursor.new result }
 {
-    let mut found = Vec::new(cursor.alloc);
+    let mut found = Vec::with_capacity(cursor.alloc, 1)?;
     found.push(pattern(cursor)?)?;
     'alternatives: while cursor.eat(Mark::Comma) {
         found.push(pattern(cursor)?)?;

@@ -30,14 +30,14 @@ pub enum ExprKind {
     Or(Boxed<Expr>, Boxed<Expr>),
     /// `value if condition else other`: the value, the condition, the other value.
     Choose(Boxed<Expr>, Boxed<Expr>, Boxed<Expr>),
-    Cast(Boxed<Expr>, TypeName),
+    Cast(Boxed<Expr>, Boxed<TypeName>),
     /// `x is T`; the flag says `is not`.
-    Test(Boxed<Expr>, TypeName, bool),
+    Test(Boxed<Expr>, Boxed<TypeName>, bool),
     Attr(Boxed<Expr>, Text),
     Index(Boxed<Expr>, Boxed<Expr>),
     Call(Boxed<Expr>, Items<Expr>),
     /// `super(..)` or `super.NAME(..)`, with the place of the word `super`.
-    Super(Pos, Option<Text>, Items<Expr>),
+    Super(Pos, Option<Boxed<Text>>, Items<Expr>),
     Preload(Text),
 }
 

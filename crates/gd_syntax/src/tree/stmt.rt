@@ -1,7 +1,7 @@
 //! Statements, patterns and variables.
 use super::{Expr, TypeName};
 use crate::{Operator, Pos, Seq, Text};
-use sqlite_items::Items;
+use sqlite_items::{Boxed, Items};
 
 /// A statement. `pos` is its first token after its annotations, `last` its last token other than
 /// line ends, block ends and `;`.
@@ -24,13 +24,13 @@ pub enum StmtKind {
     Plain(Expr),
     /// The operator of a compound assignment, the place of the assignment mark, target and value.
     Assign(Option<Operator>, Pos, Expr, Expr),
-    Local(VarDecl),
-    LocalConst(VarDecl),
+    Local(Boxed<VarDecl>),
+    LocalConst(Boxed<VarDecl>),
     /// The conditions with their blocks, and the block of `else`.
     If(Items<(Expr, Items<Stmt>)>, Option<Items<Stmt>>),
     While(Expr, Items<Stmt>),
     /// The variable, its place and written type, the place of the word `in`, subject and block.
-    For(Text, Pos, Option<TypeName>, Pos, Expr, Items<Stmt>),
+    For(Text, Pos, Option<Boxed<TypeName>>, Pos, Expr, Items<Stmt>),
     Match(Expr, Items<Branch>),
     /// The condition and the message.
     Assert(Expr, Option<Expr>),
@@ -79,8 +79,8 @@ pub struct VarDecl {
     /// The place of the `=`.
     pub equals: Option<Pos>,
     pub value: Option<Expr>,
-    pub setter: Option<Accessor>,
-    pub getter: Option<Accessor>,
+    pub setter: Option<Boxed<Accessor>>,
+    pub getter: Option<Boxed<Accessor>>,
 }
 
 #[cycle(stmt)]
