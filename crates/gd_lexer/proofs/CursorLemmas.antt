@@ -1,11 +1,12 @@
 -- Laws of cursors.
-use Rattle.std.proofs.Common.{◌≡◌, ℕ, zero, suc, ◌+◌, ◌-◌, ◌≤◌, Bool, true, false, cond, List, [], ◌∷◌, length, drop, slice_get, length-drop, refl, ap, sym, ◌∙◌, arith, subst}
+use Rattle.std.proofs.Common.{◌≡◌, ℕ, suc, ◌+◌, ◌≤◌, List, [], ◌∷◌, length, drop, slice_get, length-drop, refl, ap, sym, ◌∙◌, arith}
 use Rattle.std.proofs.lemmas.Bool.Decides.{nat_tests}
 use Rattle.std.specs.Prelude.{Option, Some, None, OnSome, IfNone, ◌<◌, slice_index}
 use Rattle.gd_syntax.specs.declared.pos.Pos.{Pos}
 use Rattle.gd_lexis.specs.declared.glyph.Glyph.{Glyph}
 use Rattle.gd_lexis.specs.declared.glyph.Glyph.TheVariants.{Char}
-use Rattle.gd_lexer.specs.Glyphs.{decoded, glyph_or, first_glyph, width, glyphs, after_first}
+use Rattle.gd_lexis.specs.Lexemes.{width}
+use Rattle.gd_lexer.specs.Glyphs.{decoded, glyph_or, first_glyph, glyphs, after_first}
 use Rattle.gd_lexer.specs.Cursor.{Spot, advanced, after_glyph}
 use Rattle.gd_lexer.proofs.GlyphLemmas.{glyphs_cons}
 

@@ -8,7 +8,8 @@ use Rattle.std.specs.Char.{IsScalar, len_utf8, encode_utf8}
 use Rattle.std.specs.Str.{StartsWithNoChar}
 use Rattle.gd_lexis.specs.declared.glyph.Glyph.{Glyph}
 use Rattle.gd_lexis.specs.Chars.{Reads}
-use Rattle.gd_lexer.specs.Glyphs.{is_scalar, scalar_of, continues, two, three, three_code, four, four_code, decoded, glyph_or, width, glyphs}
+use Rattle.gd_lexis.specs.Lexemes.{width}
+use Rattle.gd_lexer.specs.Glyphs.{is_scalar, scalar_of, continues, two, three, three_code, four, four_code, decoded, glyph_or, glyphs}
 use Rattle.gd_lexer.proofs.GlyphLemmas.{glyphs_cons, width_positive}
 
 pub taken : {A : Type 0} (b : Bool) (x y z : A) → b ≡ true → x ≡ z → cond b x y ≡ z

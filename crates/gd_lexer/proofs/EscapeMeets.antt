@@ -9,13 +9,13 @@ use Rattle.std.specs.Char.{IsScalar, digit_value}
 use Rattle.gd_lexis.specs.declared.glyph.Glyph.{Glyph}
 use Rattle.gd_lexis.specs.declared.glyph.Glyph.TheVariants.{Char}
 use Rattle.gd_lexis.specs.Chars.{place_behind}
-use Rattle.gd_lexis.specs.Strings.{Quote, IsQuote, closing, IsEscape, WritesCode}
+use Rattle.gd_lexis.specs.Strings.{Quote, IsQuote, closing, simple, IsEscape, WritesCode}
 use Rattle.gd_lexis.specs.Pieces.{BeginsWith}
 use Rattle.gd_lexis.specs.Faults.{Inside, nothing, plain, taken}
 use Rattle.gd_lexer.specs.Cursor.{Spot, advanced, advanced_over, after_glyph, sees, is_char}
 use Rattle.gd_lexer.specs.Glyphs.{is_scalar, scalar_of}
 use Rattle.gd_lexer.specs.Number.{digit_at}
-use Rattle.gd_lexer.specs.Escape.{simple, Taken, none_at, some_at, go_on, and_then, digit_taken, hex_digit, hex_pair, hex_four, hex_six, low_of, paired, short_of, short, long, character, is_line_end}
+use Rattle.gd_lexer.specs.Escape.{Taken, none_at, some_at, go_on, and_then, digit_taken, hex_digit, hex_pair, hex_four, hex_six, low_of, paired, short_of, short, long, character, is_line_end}
 use Rattle.gd_lexer.proofs.FollowsLemmas.{advanced_rest, place_more}
 use Rattle.gd_lexer.proofs.NumberMeets.{digit_of, digit_known}
 use Rattle.gd_lexer.proofs.MarkMeets.{char_is, head_seen}

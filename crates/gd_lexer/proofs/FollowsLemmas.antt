@@ -1,14 +1,15 @@
 -- Laws of spots that follow one another.
 use Rattle.std.proofs.Common.{◌≡◌, ℕ, ◌+◌, ◌-◌, ◌≤◌, Bool, true, false, cond, List, [], ◌∷◌, length, drop, length-drop, ◌++◌, append_assoc, reverse, refl, ap, sym, ◌∙◌, arith, subst, inl, inr}
 use Rattle.std.proofs.lemmas.List.{reverse-append}
-use Rattle.std.proofs.lemmas.List.Sums.{sum_by-append}
+use Rattle.std.proofs.lemmas.List.Sums.{sum_by-append, sum_by-cons}
 use Rattle.std.specs.Prelude.{Some, ◌==◌, not, count_by}
 use Rattle.std.specs.List.{prefix_len}
 use Rattle.gd_syntax.specs.declared.pos.Pos.{Pos}
 use Rattle.gd_lexis.specs.declared.glyph.Glyph.{Glyph}
 use Rattle.gd_lexis.specs.declared.glyph.Glyph.TheVariants.{Char, Bad}
 use Rattle.gd_lexis.specs.Chars.{is_line_feed, place_behind}
-use Rattle.gd_lexer.specs.Glyphs.{decoded, glyph_or, first_glyph, width, glyphs}
+use Rattle.gd_lexis.specs.Lexemes.{width, size}
+use Rattle.gd_lexer.specs.Glyphs.{decoded, glyph_or, first_glyph, glyphs}
 use Rattle.gd_lexer.specs.Cursor.{Spot, advanced, advanced_over, after_glyph}
 use Rattle.gd_lexer.specs.Follows.{Follows, IsAtMost}
 use Rattle.gd_lexer.proofs.GlyphLemmas.{glyphs_cons, width_positive}
@@ -39,10 +40,10 @@ file_glyph (Char c) p = same_file (c == 10) p
 file_glyph (Bad b) p = refl
 
 pub Follows-refl : (s : Spot) → Follows s s
-Follows-refl s = record { fewer = omega arith; wide = omega arith; whole = refl; later = IsAtMost-refl s.pos; file = refl; place = λ file all h. h }
+Follows-refl s = record { fewer = omega arith; wide = omega arith; whole = refl; bytes = refl; later = IsAtMost-refl s.pos; file = refl; place = λ file all h. h }
 
 pub Follows-trans : (a b c : Spot) → Follows a b → Follows b c → Follows a c
-Follows-trans a b c h k = record { fewer = omega arith; wide = omega arith; whole = k.whole ∙ h.whole; later = IsAtMost-trans a.pos b.pos c.pos h.later k.later; file = k.file ∙ h.file; place = λ file all p. k.place file all (h.place file all p) }
+Follows-trans a b c h k = record { fewer = omega arith; wide = omega arith; whole = k.whole ∙ h.whole; bytes = k.bytes ∙ h.bytes; later = IsAtMost-trans a.pos b.pos c.pos h.later k.later; file = k.file ∙ h.file; place = λ file all p. k.place file all (h.place file all p) }
 
 pub advanced_rest : (s : Spot) → (advanced s).glyphs ≡ drop 1 s.glyphs
 unfolding advanced
@@ -105,6 +106,7 @@ Follows-advance s bs rest g w o p q shown first wide fits cut place =
       fewer = omega arith;
       wide = omega (arith, width_positive g);
       whole = omega (arith, ap length cut, length-drop w bs);
+      bytes = omega (arith, wide, ap (λ t. size t) (head_of bs g first), sum_by-cons width g (glyphs (drop (width g) bs)), ap (λ t. size (glyphs t)) tail);
       later = rw place (later_glyph g p);
       file = rw place (file_glyph g p);
       place = λ file all h. (

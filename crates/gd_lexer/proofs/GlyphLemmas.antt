@@ -1,11 +1,13 @@
 -- Laws of glyphs.
 use Rattle.std.proofs.Common.{◌≡◌, ℕ, zero, suc, ◌+◌, ◌-◌, ◌*◌, ◌≤◌, ◌<◌, true, false, cond, Bool, List, [], ◌∷◌, length, drop, refl, ap, sym, ◌∙◌, arith, subst}
 use Rattle.std.proofs.lemmas.Bool.Decides.{nat_tests}
+use Rattle.std.proofs.lemmas.List.Sums.{sum_by-cons}
 use Rattle.std.specs.Prelude.{Option, Some, None, IfSome, ◌&&◌, nat_lt, nat_le}
 use Rattle.std.specs.Char.{len_utf8}
 use Rattle.gd_lexis.specs.declared.glyph.Glyph.{Glyph}
 use Rattle.gd_lexis.specs.declared.glyph.Glyph.TheVariants.{Char, Bad}
-use Rattle.gd_lexer.specs.Glyphs.{is_scalar, scalar_of, continues, two, three, three_code, four, four_code, decoded, glyph_or, first_glyph, width, glyphs_past, glyphs}
+use Rattle.gd_lexis.specs.Lexemes.{width, size}
+use Rattle.gd_lexer.specs.Glyphs.{is_scalar, scalar_of, continues, two, three, three_code, four, four_code, decoded, glyph_or, first_glyph, glyphs_past, glyphs}
 
 len_two : (c : ℕ) → c < 0x800 → len_utf8 c ≤ 2
 len_two c h = grind (arith, nat_tests)
@@ -96,3 +98,17 @@ past_few zero (b ∷ bs) = omega (arith, past_few (width (glyph_or b (decoded (b
 pub glyphs_few : (bs : List ℕ) → length (glyphs bs) ≤ length bs
 unfolding glyphs
 glyphs_few bs = past_few 0 bs
+
+past_size : (n : ℕ) (bs : List ℕ) → n ≤ length bs → n + size (glyphs_past n bs) ≡ length bs
+past_size n [] h = omega arith
+past_size (suc n) (b ∷ bs) h = omega (arith, past_size n bs (omega arith))
+past_size zero (b ∷ bs) h =
+    let g = glyph_or b (decoded (b ∷ bs)) in
+    let one = width_positive g in
+    let fits = decoded_within b bs in
+    omega (arith, one, fits, sum_by-cons width g (glyphs_past (width g - 1) bs), past_size (width g - 1) bs (omega arith))
+
+-- all bytes are those of glyphs
+pub glyphs_size : (bs : List ℕ) → size (glyphs bs) ≡ length bs
+unfolding glyphs
+glyphs_size bs = omega (arith, past_size 0 bs (omega arith))

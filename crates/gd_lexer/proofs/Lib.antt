@@ -24,8 +24,12 @@ pub mod LaidLemmas
 pub mod ReadLemmas
 pub mod EndLemmas
 pub mod StepLemmas
+pub mod NotedLemmas
+pub mod SpelledLemmas
+pub mod OneSpelling
 pub mod CursorLemmas
 pub mod FollowsLemmas
+pub mod TakeLemmas
 pub mod FoundLemmas
 pub mod StrayLemmas
 pub mod CommentLemmas

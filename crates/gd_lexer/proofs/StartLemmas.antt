@@ -1,14 +1,16 @@
 -- The start of a file.
-use Rattle.std.proofs.Common.{◌≡◌, ℕ, Bool, true, false, cond, List, [], ◌∷◌, ◌++◌, drop, slice_index, refl, ap, sym, ◌∙◌, arith, subst, inl, inr}
+use Rattle.std.proofs.Common.{◌≡◌, ℕ, ◌+◌, length, Bool, true, false, cond, List, [], ◌∷◌, ◌++◌, drop, slice_index, refl, ap, sym, ◌∙◌, arith, subst, inl, inr}
 use Rattle.std.specs.Prelude.{◌==◌, ◌&&◌}
 use Rattle.std.specs.Char.{encode_utf8}
 use Rattle.std.proofs.lemmas.Bool.{and_parts, eqb-true}
 use Rattle.gd_lexis.specs.declared.glyph.Glyph.{Glyph}
 use Rattle.gd_lexis.specs.declared.glyph.Glyph.TheVariants.{Char, Bad}
 use Rattle.gd_lexis.specs.Chars.{Reads, IsFile, begins_with_mark}
+use Rattle.gd_lexis.specs.Lexemes.{IsFileFrom, size}
 use Rattle.gd_lexer.specs.Glyphs.{glyphs}
 use Rattle.gd_lexer.specs.Cursor.{start_of, has_mark, IsAt}
 use Rattle.gd_lexer.proofs.DecodeLemmas.{glyphs-Reads}
+use Rattle.gd_lexer.proofs.GlyphLemmas.{glyphs_size}
 
 mark_bytes : encode_utf8 0xFEFF ≡ 239 ∷ 187 ∷ 191 ∷ []
 unfolding encode_utf8
@@ -45,8 +47,12 @@ file_of : (b : Bool) (bs : List ℕ) → has_mark bs ≡ b → IsFile bs (glyphs
 file_of true bs h = let P : List ℕ → Type 0 = λ t. Reads t (Char 0xFEFF ∷ glyphs (drop 3 bs)) in inl (subst P (sym (split bs h)) (marked_file (drop 3 bs) (glyphs (drop 3 bs)) (glyphs-Reads (drop 3 bs))))
 file_of false bs h = inr (glyphs-Reads bs, no_front bs (glyphs bs) h (glyphs-Reads bs))
 
-pub start_file : (file : ℕ) (bs : List ℕ) → IsFile bs (start_of file bs).glyphs
-start_file file bs = file_of (has_mark bs) bs refl
+bytes_of : (b : Bool) (bs : List ℕ) → has_mark bs ≡ b → cond b 3 0 + size (glyphs (drop (cond b 3 0) bs)) ≡ length bs
+bytes_of true bs h = omega (arith, glyphs_size (drop 3 bs), ap length (split bs h))
+bytes_of false bs h = omega (arith, glyphs_size bs)
+
+pub start_file : (file : ℕ) (bs : List ℕ) → IsFileFrom bs (start_of file bs).offset (start_of file bs).glyphs
+start_file file bs = (file_of (has_mark bs) bs refl, bytes_of (has_mark bs) bs refl)
 
 pub start_at : (file : ℕ) (bs : List ℕ) → IsAt file (start_of file bs).glyphs (start_of file bs)
 start_at file bs = ([], refl, refl)

@@ -76,7 +76,7 @@ comment_step file all s u t running l tokens head tail f text h =
 
 -- ---- line ends
 
-feed_seen : (s t : Spot) → Some (Char 10) ≡ slice_get s.glyphs 0 → t.glyphs ≡ drop 1 s.glyphs → s.glyphs ≡ Char 10 ∷ t.glyphs
+pub feed_seen : (s t : Spot) → Some (Char 10) ≡ slice_get s.glyphs 0 → t.glyphs ≡ drop 1 s.glyphs → s.glyphs ≡ Char 10 ∷ t.glyphs
 feed_seen s t head tail = head_seen s.glyphs (Char 10) (sym head) ∙ ap (λ g. Char 10 ∷ g) (sym tail)
 
 pub inner_feed_step : (file : ℕ) (all : List Glyph) (s t : Spot) (running : List ℕ) (l : Lines) (tokens : List Token) → nat_lt 1 (length running) ≡ true → Some (Char 10) ≡ slice_get s.glyphs 0
@@ -229,11 +229,15 @@ deepened_lead : (deeper : Option ℕ) (pos : Pos) (t d : Lexer) → Deepens deep
 deepened_lead None pos t d still = ap (λ (x : Lexer). x.lines.lead) still
 deepened_lead (Some level) pos t d deeper = deeper.line.1
 
+pub token_lead : (deeper : Option ℕ) (old a b t d : Lexer) (pos : Pos) → Opens old.lines.is_open deeper pos old a → KeepsRest a b → t.lines ≡ b.lines → Deepens deeper pos t d → IsKept old → d.lines.lead ≡ old.lines.lead
+token_lead deeper old a b t d pos opens keeps lines deepens h =
+    deepened_lead deeper pos t d deepens ∙ ap (λ (l : Lines). l.lead) (lines ∙ keeps.1) ∙ (opened_lead old.lines.is_open deeper pos old a refl opens h).0
+
 pub token_kept : (deeper : Option ℕ) (old a b t d : Lexer) (pos : Pos) → Opens old.lines.is_open deeper pos old a → KeepsRest a b → t.lines ≡ b.lines → Deepens deeper pos t d → old.cursor.offset ≤ d.cursor.offset → IsKept old
     → IsKept d
 token_kept deeper old a b t d pos opens keeps lines deepens further h =
     let was = opened_lead old.lines.is_open deeper pos old a refl opens h in
-    let lead : d.lines.lead ≡ old.lines.lead = deepened_lead deeper pos t d deepens ∙ ap (λ (l : Lines). l.lead) (lines ∙ keeps.1) ∙ was.0 in
+    let lead = token_lead deeper old a b t d pos opens keeps lines deepens h in
     let level : d.lines.lead.level ≡ old.lines.lead.level = ap (λ (l : Lead). l.level) lead in
     record {
       settled = λ _. ap (λ (l : Lead). l.mixed) lead ∙ was.1;

@@ -4,7 +4,8 @@ use Rattle.gd_syntax.specs.declared.pos.Pos.{Pos}
 use Rattle.gd_lexis.specs.declared.glyph.Glyph.{Glyph}
 use Rattle.gd_lexis.specs.declared.glyph.Glyph.TheVariants.{Char, Bad}
 use Rattle.gd_lexis.specs.Chars.{place_behind}
-use Rattle.gd_lexer.specs.Glyphs.{glyphs, width}
+use Rattle.gd_lexis.specs.Lexemes.{width}
+use Rattle.gd_lexer.specs.Glyphs.{glyphs}
 
 pub record Spot : Type 0 where
   pub glyphs : List Glyph

@@ -5,18 +5,12 @@ use Rattle.gd_model.specs.declared.rule.Rule.{Rule}
 use Rattle.gd_model.specs.declared.rule.Rule.TheVariants.{BadEscape, NotUtf8}
 use Rattle.gd_lexis.specs.declared.glyph.Glyph.{Glyph}
 use Rattle.gd_lexis.specs.declared.glyph.Glyph.TheVariants.{Char, Bad}
+use Rattle.gd_lexis.specs.Strings.{simple}
 use Rattle.gd_lexer.specs.declared.quoted.Body.{Body}
 use Rattle.gd_lexer.specs.declared.stop.Fault.{Fault}
 use Rattle.gd_lexer.specs.Cursor.{Spot, advanced, sees}
 use Rattle.gd_lexer.specs.Glyphs.{scalar_of}
 use Rattle.gd_lexer.specs.Number.{digit_at}
-
--- what a backslash with this character stands for
-abbrev pub simple : ℕ → Option ℕ
-simple c =
-    if c == 110 then Some 10 else (if c == 116 then Some 9 else (if c == 114 then Some 13
-    else (if c == 97 then Some 7 else (if c == 98 then Some 8 else (if c == 102 then Some 12 else (if c == 118 then Some 11
-    else (if c == 34 || c == 39 || c == 92 then Some c else None)))))))
 
 -- What was read, if it could be read, and the spot behind it.
 pub record Taken : Type 0 where

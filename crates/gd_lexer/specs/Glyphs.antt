@@ -1,8 +1,8 @@
 -- How bytes are read as glyphs: well-formed characters of UTF-8, and bytes that are part of none.
 use Rattle.std.specs.Prelude.{ℕ, zero, suc, ◌+◌, ◌-◌, ◌*◌, Bool, true, ◌&&◌, nat_lt, nat_le, if◌then◌else◌, List, [], ◌∷◌, drop, Option, Some, None}
-use Rattle.std.specs.Char.{len_utf8}
 use Rattle.gd_lexis.specs.declared.glyph.Glyph.{Glyph}
 use Rattle.gd_lexis.specs.declared.glyph.Glyph.TheVariants.{Char, Bad}
+use Rattle.gd_lexis.specs.Lexemes.{width}
 
 -- the number is the code of a character
 abbrev pub is_scalar : ℕ → Bool
@@ -56,11 +56,6 @@ glyph_or b None = Bad b
 unfoldable pub first_glyph : List ℕ → Option Glyph
 first_glyph [] = None
 first_glyph (b ∷ bs) = Some (glyph_or b (decoded (b ∷ bs)))
-
--- the number of a glyph's bytes
-abbrev pub width : Glyph → ℕ
-width (Char c) = len_utf8 c
-width (Bad b) = 1
 
 abbrev pub width_of_first : Option Glyph → ℕ
 width_of_first None = 0

@@ -24,5 +24,6 @@ pub mod Laid
 pub mod PutOff
 pub mod FirstFaults
 pub mod Opening
+pub mod Noted
 pub mod Sound
 pub mod Spelled

@@ -1,8 +1,12 @@
 -- The characters that go on a name.
-use Rattle.std.specs.Prelude.{ℕ, if◌then◌else◌, List, [], ◌∷◌, ◌++◌, Option, Some, None}
+use Rattle.std.specs.Prelude.{ℕ, Bool, ◌&&◌, nat_lt, if◌then◌else◌, List, [], ◌∷◌, ◌++◌, Option, Some, None}
 use Rattle.unicode_ident.specs.Ident.{is_xid_continue}
 use Rattle.gd_lexis.specs.declared.glyph.Glyph.{Glyph}
 use Rattle.gd_lexis.specs.declared.glyph.Glyph.TheVariants.{Char, Bad}
+
+-- the byte is an ASCII character with which a name goes on
+abbrev pub is_word_byte : ℕ → Bool
+is_word_byte b = nat_lt b 128 && is_xid_continue b
 
 -- the character with which a name goes on here
 abbrev pub next_in_name : Option Glyph → Option ℕ

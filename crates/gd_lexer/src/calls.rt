@@ -1,8 +1,10 @@
 //! The calls of the lexer.
-ghost use Rattle.std.specs.Prelude.{◌≡◌, ◌+◌, ◌*◌, ◌≤◌, length, IfOk, IfErr};
+ghost use Rattle.std.specs.Prelude.{◌≡◌, ◌+◌, ◌*◌, ◌≤◌, length, map, take, IfOk, IfErr};
 ghost use Rattle.gd_lexis.specs.Lexes.{Lexes};
+ghost use Rattle.gd_lexis.specs.Lexemes.{AreComments};
 ghost use Rattle.gd_lexer.specs.Found.{AreWhole};
-ghost use Rattle.gd_lexer.specs.Spelled.{tokens_of};
+ghost use Rattle.gd_lexer.specs.Noted.{extent_of, AreFileNotes};
+ghost use Rattle.gd_lexer.specs.Spelled.{tokens_of, bytes_of, comments_of, AreSpelled};
 ghost use Rattle.gd_lexer.specs.LexFaults.{IsLexicalFault, IsFirstFault, AnswersStop};
 
 use crate::fault::LexFault;
@@ -40,6 +42,9 @@ pub fn lex(alloc: Global, file: u32, bytes: &[u8]) -> Result<Vec<Token>, LexFaul
 pub fn lexemes(alloc: Global, bytes: &[u8]) -> Result<Lexemes, LexFault>
     requires { length bytes.now ≤ 1_048_576 }
     ensures tokens { IfOk result (λ l. Lexes 0 bytes.now (tokens_of l.tokens)) }
+    // Each token has its own bytes, and the comments are exactly those of the file, in order.
+    ensures spelled { IfOk result (λ l. AreSpelled 0 bytes.now l.tokens) }
+    ensures comments { IfOk result (λ l. AreComments bytes.now (comments_of l.comments)) }
     ensures first { IfErr result (IsFirstFault 0 bytes.now) }
     ensures fault { IfErr result IsLexicalFault }
 {
@@ -62,6 +67,7 @@ fn read(alloc: Global, file: u32, bytes: &[u8]) -> Result<Whole, LexFault>
     ensures count { IfOk result (λ w. length w.tokens.items ≤ 4 * length bytes.now + 1) }
     ensures tokens { IfOk result (λ w. Lexes file bytes.now w.tokens.items) }
     ensures spanned { IfOk result (λ w. length w.tokens.items ≤ length w.spans.items) }
+    ensures noted { IfOk result (AreFileNotes file bytes.now) }
     ensures first { IfErr result (IsFirstFault file bytes.now) }
     ensures fault { IfErr result IsLexicalFault }
 {
@@ -96,7 +102,9 @@ fn listed(
     comments: &[Span],
 ) -> Result<Lexemes, NoMemory>
     requires { length tokens.items ≤ length spans.now }
-    ensures { IfOk result (λ l. tokens_of l.tokens ≡ tokens.items) }
+    ensures tokens { IfOk result (λ l. tokens_of l.tokens ≡ tokens.items) }
+    ensures bytes { IfOk result (λ l. map bytes_of l.tokens ≡ map extent_of (take (length tokens.items) spans.now)) }
+    ensures comments { IfOk result (λ l. comments_of l.comments ≡ map extent_of comments.now) }
 {
     Ok(Lexemes {
         tokens: Seq::of(joined(alloc, tokens, spans)?),
@@ -106,7 +114,8 @@ fn listed(
 
 fn joined(alloc: Global, tokens: Vec<Token>, spans: &[Span]) -> Result<Vec<Lexeme>, NoMemory>
     requires { length tokens.items ≤ length spans.now }
-    ensures { IfOk result (λ v. tokens_of v.items ≡ tokens.items) }
+    ensures tokens { IfOk result (λ v. tokens_of v.items ≡ tokens.items) }
+    ensures bytes { IfOk result (λ v. map bytes_of v.items ≡ map extent_of (take (length tokens.items) spans.now)) }
 {
     let mut lexemes = Vec::with_capacity(alloc, tokens.len())?;
     for token in tokens {
@@ -116,7 +125,9 @@ fn joined(alloc: Global, tokens: Vec<Token>, spans: &[Span]) -> Result<Vec<Lexem
     Ok(lexemes)
 }
 
-fn comment_list(alloc: Global, spans: &[Span]) -> Result<Vec<Comment>, NoMemory> {
+fn comment_list(alloc: Global, spans: &[Span]) -> Result<Vec<Comment>, NoMemory>
+    ensures { IfOk result (λ v. comments_of v.items ≡ map extent_of spans.now) }
+{
     let mut comments = Vec::with_capacity(alloc, spans.len())?;
     for span in spans {
         let Span { start, end } = *span;

@@ -1,9 +1,13 @@
 //! A place in a file, and what stands from there on.
-ghost use Rattle.std.specs.Prelude.{◌≡◌, ◌+◌, ◌-◌, ◌^◌, ◌≤◌, ◌<◌, length, drop, slice_get, OnSome, IfNone};
-ghost use Rattle.gd_lexis.specs.Chars.{IsFile};
+ghost use Rattle.std.specs.Prelude.{◌≡◌, ◌+◌, ◌-◌, ◌^◌, ◌≤◌, ◌<◌, ◌++◌, length, drop, map, slice_get, All, OnSome, IfNone};
+ghost use Rattle.std.specs.List.{prefix_len};
+ghost use Rattle.gd_lexis.specs.declared.glyph.Glyph.TheVariants.{Char};
+ghost use Rattle.gd_lexis.specs.Lexemes.{IsFileFrom};
+ghost use Rattle.gd_lexis.specs.Words.{GoesOn};
 ghost use Rattle.gd_lexer.specs.Cursor.{advanced, after_glyph, start_of, IsAt};
 ghost use Rattle.gd_lexer.specs.Cursor as spec;
 ghost use Rattle.gd_lexer.specs.Follows.{Follows};
+ghost use Rattle.gd_lexer.specs.Name as name;
 
 use crate::glyph;
 use gd_lexis::Glyph;
@@ -35,7 +39,7 @@ impl<'a> Cursor<'a> {
     pub fn new(file: u32, bytes: &'a [u8]) -> Cursor<'a>
         requires { length bytes.now ≤ 1_048_576 }
         ensures value { result ≡ start_of file bytes.now }
-        ensures file { IsFile bytes.now result.glyphs }
+        ensures file { IsFileFrom bytes.now result.offset result.glyphs }
         ensures place { IsAt file result.glyphs result }
     {
         Cursor::start(file, bytes)
@@ -164,6 +168,21 @@ impl<'a> Cursor<'a> {
         self.pos = after(self.pos, glyph);
     }
 
+    /// Goes over the ASCII characters that come next with which a name goes on, and returns them. They are all in one
+    /// line, and each is one byte.
+    pub fn take_word(&mut self) -> &'a [u8]
+        ensures glyphs { self.old.glyphs ≡ map Char result.now ++ self.new.glyphs }
+        ensures word { All GoesOn result.now }
+        ensures follows { Follows self.old self.new }
+    {
+        let count = word_length(self.rest);
+        let word = &self.rest[..count];
+        self.rest = glyph::behind(self.rest, count);
+        self.offset += count as u32;
+        self.pos.column += count as u32;
+        word
+    }
+
     /// Goes over the next two glyphs.
     pub fn advance_two(&mut self)
         ensures value { self.new ≡ advanced (advanced self.old) }
@@ -186,6 +205,28 @@ impl<'a> Cursor<'a> {
         self.advance();
         self.advance();
     }
+}
+
+/// The number of bytes at the front that are ASCII characters with which a name goes on.
+#[inline(always)]
+fn word_length(bytes: &[u8]) -> usize
+    ensures value { result ≡ prefix_len name.is_word_byte bytes.now }
+    ensures fits { result ≤ length bytes.now }
+{
+    let mut count = 0;
+    'word: while count < bytes.len() && is_word_byte(bytes[count]) {
+        count += 1;
+    }
+    count
+}
+
+/// Whether the byte is an ASCII character with which a name goes on.
+#[inline(always)]
+#[tactic(auto, using(crate::proofs::NameLemmas::word_byte))]
+fn is_word_byte(byte: u8) -> bool
+    ensures { result ≡ name.is_word_byte byte }
+{
+    byte.is_ascii_alphanumeric() || byte == b'_'
 }
 
 /// Whether the glyph is this character.

@@ -1,5 +1,6 @@
 //! The escapes of a string.
 ghost use Rattle.std.specs.Prelude.{◌≡◌, ◌<◌, ◌≤◌, ◌+◌, ◌-◌, ◌*◌, IfSome, IfOk, OnOk, length, List, [], ◌∷◌, ◌++◌};
+ghost use Rattle.gd_lexis.specs.Strings as strings;
 ghost use Rattle.gd_lexer.specs.Cursor.{Spot};
 ghost use Rattle.gd_lexer.specs.Escape as spec;
 ghost use Rattle.gd_lexer.specs.Follows.{Follows};
@@ -14,7 +15,7 @@ use no_memory::NoMemory;
 
 /// The character that a backslash with this character stands for.
 fn simple(c: char) -> Option<char>
-    ensures { result ≡ spec.simple c }
+    ensures { result ≡ strings.simple c }
 {
     match c {
         'n' => Some('\n'),

@@ -1,5 +1,5 @@
 //! What was found in a file.
-ghost use Rattle.std.specs.Prelude.{◌≡◌, ◌+◌, ◌≤◌, ◌++◌, ◌∷◌, [], OnOk, IfOk, length};
+ghost use Rattle.std.specs.Prelude.{◌≡◌, ◌+◌, ◌≤◌, ◌++◌, ◌∷◌, [], OnOk, OnErr, IfOk, length};
 ghost use Rattle.gd_lexer.specs.Follows.{IsAtMost};
 ghost use Rattle.gd_lexer.specs.Found.{IsNotEnd, AreWhole};
 
@@ -49,6 +49,8 @@ impl Found {
     /// Nothing, of the file that starts here, with room for so many tokens if there is memory for it.
     pub fn new(alloc: Global, start: Pos, room: usize) -> Found
         ensures tokens { result.tokens ≡ [] }
+        ensures spans { result.spans ≡ [] }
+        ensures comments { result.comments ≡ [] }
         ensures last { result.last ≡ start }
     {
         Found {
@@ -60,6 +62,7 @@ impl Found {
     }
 
     /// Adds a token.
+    #[inline(always)]
     pub fn push(&mut self, pos: Pos, kind: TokenKind, span: Span) -> Result<(), NoMemory>
         requires file { pos.file ≡ self.old.last.file }
         requires line { 1 ≤ pos.line }
@@ -69,9 +72,11 @@ impl Found {
         ensures last { OnOk result (self.new.last ≡ pos) }
         ensures count { OnOk result (length self.new.tokens ≡ length self.old.tokens + 1) }
         ensures tokens { OnOk result (self.new.tokens ≡ self.old.tokens ++ record { pos = pos; kind = kind } ∷ []) }
+        ensures spans { OnOk result (self.new.spans ≡ self.old.spans ++ span ∷ []) }
+        ensures comments { self.new.comments ≡ self.old.comments }
     {
-        self.spans.push(span)?;
-        self.tokens.push(Token { pos, kind })?;
+        add(&mut self.spans, span)?;
+        add(&mut self.tokens, Token { pos, kind })?;
         self.last = pos;
         Ok(())
     }
@@ -86,6 +91,8 @@ impl Found {
         ensures last { OnOk result (self.new.last ≡ pos) }
         ensures count { OnOk result (length self.new.tokens ≡ length self.old.tokens + 1) }
         ensures tokens { OnOk result (self.new.tokens ≡ self.old.tokens ++ record { pos = pos; kind = kind } ∷ []) }
+        ensures spans { OnOk result (self.new.spans ≡ self.old.spans ++ record { start = at; end = at } ∷ []) }
+        ensures comments { self.new.comments ≡ self.old.comments }
     {
         self.push(pos, kind, Span { start: at, end: at })
     }
@@ -94,9 +101,10 @@ impl Found {
     pub fn comment(&mut self, span: Span) -> Result<(), NoMemory>
         ensures last { self.new.last ≡ self.old.last }
         ensures tokens { self.new.tokens ≡ self.old.tokens }
+        ensures spans { self.new.spans ≡ self.old.spans }
+        ensures comments { OnOk result (self.new.comments ≡ self.old.comments ++ span ∷ []) }
     {
-        self.comments.push(span)?;
-        Ok(())
+        add(&mut self.comments, span)
     }
 
     /// Adds End, at the place `pos` before the byte `at`.
@@ -109,6 +117,8 @@ impl Found {
         ensures count { IfOk result (λ w. length w.tokens.items ≡ length self.tokens + 1) }
         ensures spanned { IfOk result (λ w. length w.tokens.items ≤ length w.spans.items) }
         ensures tokens { IfOk result (λ w. w.tokens.items ≡ self.tokens ++ record { pos = pos; kind = TokenKind.End } ∷ []) }
+        ensures spans { IfOk result (λ w. w.spans.items ≡ self.spans ++ record { start = at; end = at } ∷ []) }
+        ensures comments { IfOk result (λ w. w.comments.items ≡ self.comments) }
     {
         let Found {
             mut tokens,
@@ -116,17 +126,30 @@ impl Found {
             comments,
             ..
         } = self;
-        tokens.push(Token {
+        let end = Token {
             pos,
             kind: TokenKind::End,
-        })?;
-        spans.push(Span { start: at, end: at })?;
+        };
+        add(&mut tokens, end)?;
+        add(&mut spans, Span { start: at, end: at })?;
         Ok(Whole {
             tokens,
             spans,
             comments,
         })
     }
+}
+
+/// Adds an item to the list. Where memory does not suffice the item is dropped: `Vec::push` would hand it back, and its
+/// larger result takes time at each call.
+#[inline(always)]
+fn add<T: Drop>(list: &mut Vec<T>, item: T) -> Result<(), NoMemory>
+    ensures ok { OnOk result (list.new.items ≡ list.old.items ++ item ∷ []) }
+    ensures err { OnErr result (list.new.items ≡ list.old.items) }
+{
+    list.reserve(1)?;
+    list.push_reserved(item);
+    Ok(())
 }
 
 /// An empty list with room for so many items, or with none where memory does not suffice.

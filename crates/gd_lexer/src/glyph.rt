@@ -1,5 +1,6 @@
 //! Reading the first glyph of some bytes.
 ghost use Rattle.std.specs.Prelude.{◌≡◌, ◌≤◌, ◌<◌, length, drop, IfSome};
+ghost use Rattle.gd_lexis.specs.Lexemes as lexemes;
 ghost use Rattle.gd_lexer.specs.Glyphs as spec;
 
 use crate::decode::decode;
@@ -7,7 +8,7 @@ use gd_lexis::Glyph;
 
 /// The number of a glyph's bytes.
 pub fn width(glyph: Glyph) -> usize
-    ensures value { result ≡ spec.width glyph }
+    ensures value { result ≡ lexemes.width glyph }
     ensures low { 1 ≤ result }
     ensures high { result ≤ 4 }
 {
@@ -22,7 +23,7 @@ pub fn width(glyph: Glyph) -> usize
 #[tactic(auto, unfolding(crate::specs::Glyphs::first_glyph, crate::specs::Glyphs::decoded))]
 pub fn first(bytes: &[u8]) -> Option<Glyph>
     ensures value { result ≡ spec.first_glyph bytes.now }
-    ensures within { IfSome result (λ g. spec.width g ≤ length bytes.now) }
+    ensures within { IfSome result (λ g. lexemes.width g ≤ length bytes.now) }
 {
     // Most characters are ASCII, so that this part stands where it is called.
     match bytes {
@@ -37,7 +38,7 @@ pub fn first(bytes: &[u8]) -> Option<Glyph>
 #[tactic(auto, unfolding(crate::specs::Glyphs::first_glyph), using(crate::proofs::GlyphLemmas::decoded_fits))]
 fn first_of_any(bytes: &[u8]) -> Option<Glyph>
     ensures value { result ≡ spec.first_glyph bytes.now }
-    ensures within { IfSome result (λ g. spec.width g ≤ length bytes.now) }
+    ensures within { IfSome result (λ g. lexemes.width g ≤ length bytes.now) }
 {
     let [byte, ..] = bytes else {
         return None;

@@ -5,7 +5,7 @@ ghost use Rattle.gd_lexer.specs.Token.{IsToken, IsInnerOf, IsFaultOf};
 ghost use Rattle.gd_lexis.specs.declared.glyph.Glyph.TheVariants.{Char};
 ghost use Rattle.gd_lexer.specs.Start as spec;
 ghost use Rattle.gd_lexis.specs.declared.glyph.Glyph.{Glyph};
-ghost use Rattle.gd_lexis.specs.Chars.{IsFile};
+ghost use Rattle.gd_lexis.specs.Lexemes.{IsFileFrom};
 ghost use Rattle.gd_lexer.specs.Cursor.{sees};
 ghost use Rattle.gd_lexer.specs.Cut.{IsCommentText, GoesOn, code_of};
 ghost use Rattle.gd_lexer.specs.Begun.{newline_if};
@@ -17,6 +17,7 @@ ghost use Rattle.gd_lexis.specs.Lines.{innermost};
 ghost use Rattle.gd_lexer.specs.Lexical.{is_lexical};
 ghost use Rattle.gd_lexer.specs.FirstFaults.{Strays, StopsInText, KeepsTrail, Trails, IsFirstFrom, IsWant, Unopened, Undeepened};
 ghost use Rattle.gd_lexer.specs.Found.{IsNotEnd, AreWhole};
+ghost use Rattle.gd_lexer.specs.Noted.{Notes, KeepsNotes, KeepsSpelled, IsNoted, span_if};
 ghost use Rattle.gd_lexer.specs.Sound.{IsSound, IsPlaced, load, count_of_line};
 ghost use Rattle.gd_lexer.specs.Follows.{Follows};
 
@@ -110,9 +111,10 @@ impl<'a> Lexer<'a> {
         ensures sound { IsSound result }
         ensures file { result.found.last.file ≡ file }
         ensures size { result.cursor.offset + result.cursor.left ≡ length bytes.now }
-        ensures read { IsFile bytes.now result.cursor.glyphs }
+        ensures read { IsFileFrom bytes.now result.cursor.offset result.cursor.glyphs }
         ensures holds { Holds file result.cursor.glyphs result }
         ensures trails { Trails file result.cursor.glyphs result }
+        ensures notes { Notes file result.cursor.offset result.cursor.glyphs result }
     {
         let cursor = Cursor::new(file, bytes);
         let found = Found::new(alloc, cursor.pos(), bytes.len() / BYTES_OF_A_TOKEN);
@@ -133,6 +135,7 @@ impl<'a> Lexer<'a> {
         ensures count { IfOk result (λ w. length w.tokens.items ≤ 4 * (self.entry.cursor.offset + self.entry.cursor.left) + 1) }
         ensures spanned { IfOk result (λ w. length w.tokens.items ≤ length w.spans.items) }
         ensures laid { IfOk result (λ w. (file : ℕ) (all : List Glyph) → Holds file all self.entry → AreLaid file all w.tokens.items) }
+        ensures noted { IfOk result (λ w. (file : ℕ) (first : ℕ) (all : List Glyph) → Notes file first all self.entry → IsNoted file first all w) }
         ensures first { IfErr result (IsFirstFrom self.entry) }
     {
         while let Some(glyph) = self.cursor.peek() {
@@ -149,6 +152,7 @@ impl<'a> Lexer<'a> {
         ensures sound { OnOk result (IsSound self.new) }
         ensures reads { OnOk result (Reads self.old self.new) }
         ensures trails { OnOk result (KeepsTrail self.old self.new) }
+        ensures notes { OnOk result (KeepsNotes self.old self.new) }
         ensures first { IfErr result (IsFirstFrom self.old) }
         ensures follows { Follows self.old.cursor self.new.cursor }
         ensures fewer { OnOk result (length self.new.cursor.glyphs ≤ length self.old.cursor.glyphs - 1) }
@@ -167,6 +171,7 @@ impl<'a> Lexer<'a> {
         ensures sound { OnOk result (IsSound self.new) }
         ensures reads { OnOk result (Reads self.old self.new) }
         ensures trails { OnOk result (KeepsTrail self.old self.new) }
+        ensures notes { OnOk result (KeepsNotes self.old self.new) }
         ensures first { IfErr result (IsFirstFrom self.old) }
         ensures follows { Follows self.old.cursor self.new.cursor }
         ensures fewer { OnOk result (length self.new.cursor.glyphs ≤ length self.old.cursor.glyphs - 1) }
@@ -199,6 +204,7 @@ impl<'a> Lexer<'a> {
         ensures sound { IsSound self.new }
         ensures reads { Reads self.old self.new }
         ensures trails { KeepsTrail self.old self.new }
+        ensures notes { KeepsNotes self.old self.new }
         ensures follows { Follows self.old.cursor self.new.cursor }
         ensures fewer { length self.new.cursor.glyphs ≡ length self.old.cursor.glyphs - 1 }
     {
@@ -211,6 +217,7 @@ impl<'a> Lexer<'a> {
         ensures sound { IsSound self.new }
         ensures reads { Reads self.old self.new }
         ensures trails { KeepsTrail self.old self.new }
+        ensures notes { KeepsNotes self.old self.new }
         ensures follows { Follows self.old.cursor self.new.cursor }
         ensures fewer { length self.new.cursor.glyphs ≡ length self.old.cursor.glyphs - 1 }
     {
@@ -226,6 +233,7 @@ impl<'a> Lexer<'a> {
         ensures sound { OnOk result (IsSound self.new) }
         ensures reads { OnOk result (Reads self.old self.new) }
         ensures trails { OnOk result (KeepsTrail self.old self.new) }
+        ensures notes { OnOk result (KeepsNotes self.old self.new) }
         ensures first { IfErr result (IsFirstFrom self.old) }
         ensures follows { Follows self.old.cursor self.new.cursor }
         ensures fewer { OnOk result (length self.new.cursor.glyphs ≤ length self.old.cursor.glyphs - 1) }
@@ -242,6 +250,7 @@ impl<'a> Lexer<'a> {
         ensures sound { OnOk result (IsSound self.new) }
         ensures reads { OnOk result (Reads self.old self.new) }
         ensures trails { OnOk result (KeepsTrail self.old self.new) }
+        ensures notes { OnOk result (KeepsNotes self.old self.new) }
         ensures first { IfErr result (IsFirstFrom self.old) }
         ensures follows { Follows self.old.cursor self.new.cursor }
         ensures fewer { OnOk result (length self.new.cursor.glyphs ≤ length self.old.cursor.glyphs - 1) }
@@ -273,6 +282,7 @@ impl<'a> Lexer<'a> {
         ensures sound { OnOk result (IsSound self.new) }
         ensures reads { OnOk result (Reads self.old self.new) }
         ensures trails { OnOk result (KeepsTrail self.old self.new) }
+        ensures notes { OnOk result (KeepsNotes self.old self.new) }
         ensures first { IfErr result (IsFirstFrom self.old) }
         ensures follows { Follows self.old.cursor self.new.cursor }
         ensures fewer { OnOk result (length self.new.cursor.glyphs ≤ length self.old.cursor.glyphs - 1) }
@@ -322,6 +332,7 @@ impl<'a> Lexer<'a> {
         ensures sound { OnOk result (IsSound self.new) }
         ensures reads { OnOk result (Reads self.old self.new) }
         ensures trails { OnOk result (KeepsTrail self.old self.new) }
+        ensures notes { OnOk result (KeepsNotes self.old self.new) }
         ensures first { IfErr result (IsFirstFrom self.old) }
         ensures follows { Follows self.old.cursor self.new.cursor }
         ensures fewer { OnOk result (length self.new.cursor.glyphs ≤ length self.old.cursor.glyphs - 1) }
@@ -345,6 +356,8 @@ impl<'a> Lexer<'a> {
         ensures count { OnOk result (length self.new.found.tokens ≤ length self.old.found.tokens + count_of_line self.old.lines.is_open) }
         ensures newline { OnOk result (self.new.found.tokens ≡ self.old.found.tokens ++ newline_if self.old.lines.is_open pos) }
         ensures items { OnOk result (items_of self.new.brackets ≡ ended_if self.old.lines.is_open (items_of self.old.brackets)) }
+        ensures spans { OnOk result (self.new.found.spans ≡ self.old.found.spans ++ span_if self.old.lines.is_open span) }
+        ensures comments { self.new.found.comments ≡ self.old.found.comments }
         ensures lines { self.new.lines ≡ self.old.lines }
         ensures cursor { self.new.cursor ≡ self.old.cursor }
         ensures want { IfErr result IsWant }
@@ -368,6 +381,7 @@ impl<'a> Lexer<'a> {
         ensures sound { OnOk result (IsSound self.new) }
         ensures reads { OnOk result (Reads self.old self.new) }
         ensures trails { OnOk result (KeepsTrail self.old self.new) }
+        ensures notes { OnOk result (KeepsNotes self.old self.new) }
         ensures first { IfErr result (IsFirstFrom self.old) }
         ensures follows { Follows self.old.cursor self.new.cursor }
         ensures fewer { OnOk result (length self.new.cursor.glyphs ≤ length self.old.cursor.glyphs - 1) }
@@ -386,6 +400,7 @@ impl<'a> Lexer<'a> {
         ensures sound { OnOk result (IsSound self.new) }
         ensures reads { OnOk result (Reads self.old self.new) }
         ensures trails { OnOk result (KeepsTrail self.old self.new) }
+        ensures notes { OnOk result (KeepsNotes self.old self.new) }
         ensures first { IfErr result (IsFirstFrom self.old) }
         ensures follows { Follows self.old.cursor self.new.cursor }
         ensures fewer { OnOk result (length self.new.cursor.glyphs ≤ length self.old.cursor.glyphs - 1) }
@@ -413,6 +428,8 @@ impl<'a> Lexer<'a> {
         ensures placed { OnOk result (IsPlaced self.new pos) }
         ensures load { OnOk result (load self.new ≤ load self.old + 2) }
         ensures cursor { self.new.cursor ≡ self.old.cursor }
+        ensures spelled { OnOk result (KeepsSpelled pos at self.old.found self.new.found) }
+        ensures comments { self.new.found.comments ≡ self.old.found.comments }
         ensures deeper { OnOk result (Deepens deeper pos self.old self.new) }
         ensures fault { IfErr result (Undeepened deeper pos self.old) }
     {
@@ -431,6 +448,8 @@ impl<'a> Lexer<'a> {
         ensures placed { OnOk result (IsPlaced self.new pos) }
         ensures load { OnOk result (load self.new ≤ load self.old + 1) }
         ensures cursor { self.new.cursor ≡ self.old.cursor }
+        ensures spelled { OnOk result (KeepsSpelled pos at self.old.found self.new.found) }
+        ensures comments { self.new.found.comments ≡ self.old.found.comments }
         ensures opens { IfOk result (λ deeper. Opens self.old.lines.is_open deeper pos self.old self.new) }
         ensures fault { IfErr result (Unopened pos self.old) }
     {
@@ -457,6 +476,8 @@ impl<'a> Lexer<'a> {
         ensures closed { OnOk result (AreClosed level pos self.old.lines.blocks self.new.lines.blocks self.old.found.tokens self.new.found.tokens) }
         ensures low { OnOk result (innermost self.new.lines.blocks ≤ level) }
         ensures line { KeepsLine self.old.lines self.new.lines }
+        ensures spelled { OnOk result (KeepsSpelled pos at self.old.found self.new.found) }
+        ensures comments { self.new.found.comments ≡ self.old.found.comments }
         ensures brackets { self.new.brackets ≡ self.old.brackets }
         ensures want { IfErr result IsWant }
     {
@@ -618,6 +639,7 @@ impl<'a> Lexer<'a> {
         ensures count { IfOk result (λ w. length w.tokens.items ≤ load self.entry + 1) }
         ensures spanned { IfOk result (λ w. length w.tokens.items ≤ length w.spans.items) }
         ensures laid { IfOk result (λ w. (file : ℕ) (all : List Glyph) → Holds file all self.entry → self.entry.cursor.glyphs ≡ [] → AreLaid file all w.tokens.items) }
+        ensures noted { IfOk result (λ w. (file : ℕ) (first : ℕ) (all : List Glyph) → Notes file first all self.entry → self.entry.cursor.glyphs ≡ [] → IsNoted file first all w) }
         ensures first { IfErr result (λ stop. self.entry.cursor.glyphs ≡ [] → IsFirstFrom self.entry stop) }
     {
         let pos = self.cursor.pos();

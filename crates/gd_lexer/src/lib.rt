@@ -25,4 +25,4 @@ mod word;
 
 pub use calls::{lex, lexemes};
 pub use fault::LexFault;
-pub use spelled::{Comment, Lexeme, Lexemes};
+pub use spelled::{Comment, Lexeme, Lexemes, one_lexeme_list};

@@ -139,6 +139,28 @@ fn an_item_has_a_hundred_tokens(rt: HostRuntime) -> Result<(), Fail> {
     Ok(())
 }
 
+/// So many lines, each a tab deeper than the one before.
+fn stairs(alloc: Global, lines: usize) -> Result<Vec<u8>, NoMemory> {
+    let mut bytes = Vec::new(alloc);
+    let mut tabs = Vec::new(alloc);
+    for _ in 0..lines {
+        bytes.extend_from_slice(tabs.as_slice())?;
+        bytes.extend_from_slice(b"if x:\n")?;
+        tabs.push(b'\t')?;
+    }
+    Ok(bytes)
+}
+
+#[test]
+fn thirty_two_blocks_may_be_open(rt: HostRuntime) -> Result<(), Fail> {
+    let full = stairs(rt.alloc(), 33)?;
+    assert_eq!(rt; fault_of(rt.alloc(), full.as_slice())?, None);
+    let deep = stairs(rt.alloc(), 34)?;
+    let fault = fault_of(rt.alloc(), deep.as_slice())?;
+    assert_eq!(rt; fault, Some((34, 34, Rule::BlocksTooDeep)));
+    Ok(())
+}
+
 /// A letter for a kind, and the number, or the length of the text.
 fn letter(kind: &TokenKind) -> (char, i64) {
     match kind {

@@ -6,6 +6,7 @@ pub mod Pieces
 pub mod Lines
 pub mod Items
 pub mod Lexes
+pub mod Lexemes
 pub mod Faults
 pub mod Faultless
 pub mod Trials

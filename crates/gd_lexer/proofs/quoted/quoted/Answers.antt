@@ -1,5 +1,4 @@
-use Rattle.std.proofs.Common.{◌≡◌, sym, ◌∙◌, ap, subst, arith, Bool}
-use Rattle.std.specs.Prelude.{Option, Some, None}
+use Rattle.std.proofs.Common.{◌≡◌, sym, ◌∙◌, subst, arith, Bool}
 use Rattle.gd_lexer.specs.Cursor.{Spot}
 use Rattle.gd_lexer.specs.declared.quoted.Quote.{Quote}
 use Rattle.gd_lexer.specs.Escape.{Reading, reading_of, moved}

@@ -1,7 +1,8 @@
 use Rattle.std.proofs.Common.{◌≡◌, ◌-◌, ◌≤◌, ◌<◌, length, sym, subst, ap, ◌∙◌, arith, refl, drop}
 use Rattle.std.specs.Prelude.{Some}
 use Rattle.gd_lexis.specs.declared.glyph.Glyph.TheVariants.{Char}
-use Rattle.gd_lexer.specs.Glyphs.{first_glyph, width}
+use Rattle.gd_lexis.specs.Lexemes.{width}
+use Rattle.gd_lexer.specs.Glyphs.{first_glyph}
 use Rattle.gd_lexer.specs.Cursor.{Spot, advanced}
 use Rattle.gd_lexer.proofs.CursorLemmas.{goes_on, ascii_first, ascii_width}
 use Rattle.gd_lexer.proofs.FollowsLemmas.{Follows-advance, advanced_fewer, advanced_rest}

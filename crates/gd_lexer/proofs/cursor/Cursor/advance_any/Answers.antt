@@ -1,4 +1,4 @@
-use Rattle.std.proofs.Common.{◌≡◌, ◌-◌, ◌≤◌, length, sym, subst, ap, ◌∙◌, arith}
+use Rattle.std.proofs.Common.{◌≡◌, ◌≤◌, length, sym, subst, ap, ◌∙◌, arith}
 use Rattle.gd_lexer.specs.Cursor.{Spot, advanced}
 use Rattle.gd_lexer.proofs.CursorLemmas.{stays, goes_on}
 use Rattle.gd_lexer.proofs.FollowsLemmas.{Follows-refl, Follows-advance, advanced_fewer, advanced_rest}

@@ -9,4 +9,4 @@ invariant_of-self-2 c =
     let same : c.self.inside.last ≡ c.args.self.now.last = ap (λ (f : FoundList). f.last) c.self.view_is in
     let order =
     AreUpTo-push c.self.inside.tokens.items c.self.inside.last (record { pos = c.args.pos; kind = c.args.kind }) c.self.invariant.0 (rw same c.requires.file) c.requires.line c.requires.column (rw same c.requires.later) c.requires.open in
-    (rw c.in_ok-push-2.ensures.items order, grind (arith, common_steps))
+    (rw c.in_ok-add-2.ensures.ok order, grind (arith, common_steps))

@@ -1,10 +1,14 @@
-use Rattle.std.proofs.Common.{◌∙◌, ap}
+use Rattle.std.proofs.Common.{[], ◌∷◌, ◌++◌, sym, ◌∙◌, ap}
 use Rattle.gd_lexer.specs.Found.{FoundList}
 use Rattle.gd_lexer.specs.Brackets.{items_of}
 use Rattle.gd_lexer.proofs.FollowsLemmas.{Follows-trans}
 use Rattle.gd_lexer.proofs.StepLemmas.{comment_step, laid_same}
 use Rattle.std.proofs.lemmas.Result.{err_from_is_err_and}
 use Rattle.gd_lexer.proofs.FirstLemmas.{hidden_at_comment, comment_stops}
+use Rattle.gd_lexis.specs.declared.glyph.Glyph.TheVariants.{Char}
+use Rattle.gd_lexis.specs.Pieces.{Comment}
+use Rattle.gd_lexer.proofs.MarkMeets.{head_seen}
+use Rattle.gd_lexer.proofs.NotedLemmas.{noted_piece, comment_noted}
 use Rattle.gd_lexer.proofs.lexer.Lexer.comment.Goals as goal
 
 pub returns-clause-reads : goal.returns-clause-reads
@@ -29,3 +33,16 @@ returns-in_err-comment_text-clause-first c =
 
 pub returns-in_err-comment_text-clause-follows : goal.returns-in_err-comment_text-clause-follows
 returns-in_err-comment_text-clause-follows c = Follows-trans _ _ _ c.advance.ensures.follows c.comment_text.ensures.follows
+
+pub returns-clause-notes : goal.returns-clause-notes
+returns-clause-notes c =
+    let old = c.args.self.now in
+    let now = c.comment_text.new.self in
+    let keeps = c.comment_text.ensures.keeps.0 in
+    let text = c.in_ok-comment_text.ensures.text in
+    let follows = Follows-trans _ _ _ c.advance.ensures.follows c.in_ok-comment_text.ensures.follows in
+    let split = head_seen old.cursor.glyphs (Char 35) (sym c.requires.head) ∙ ap (λ g. Char 35 ∷ g) (sym c.advance.ensures.rest ∙ text.1) in
+    noted_piece old _ (Comment text.0) follows (λ _. c.in_ok-comment.ensures.hidden) split text.2
+    (comment_noted old.cursor now.cursor text.0 old.found.comments c.comment-2.new.self.comments c.offset-start.result c.offset-end.result follows split c.offset-start.ensures.value c.offset-end.ensures.value
+    (c.in_ok-comment-2.ensures.comments ∙ ap (λ (f : FoundList). f.comments ++ record { start = c.offset-start.result; end = c.offset-end.result } ∷ []) keeps))
+    (c.comment-2.ensures.tokens ∙ ap (λ (f : FoundList). f.tokens) keeps) (c.comment-2.ensures.spans ∙ ap (λ (f : FoundList). f.spans) keeps)

@@ -16,3 +16,7 @@ returns-in_err-step-clause-first c =
 pub returns-clause-first : goal.returns-clause-first
 returns-clause-first c =
     first_at_end c.args.self c.loop-glyph.self c.finish.result c.loop-glyph.invariant.reads c.loop-glyph.invariant.trails (nil_from_length c.loop-glyph.self.cursor.glyphs c.in_default.ensures.none) c.finish.ensures.first
+
+pub returns-clause-noted : goal.returns-clause-noted
+returns-clause-noted c =
+    IfOk-weaker c.finish.result _ _ (λ w p file first all h. p file first all (c.loop-glyph.invariant.notes file first all h) (nil_from_length c.loop-glyph.self.cursor.glyphs c.in_default.ensures.none)) c.finish.ensures.noted

@@ -4,6 +4,7 @@ use Rattle.gd_model.specs.declared.rule.Rule.{Rule}
 use Rattle.gd_lexer.specs.FirstFaults.{Strays}
 use Rattle.gd_lexer.proofs.FirstLemmas.{stray_stops}
 use Rattle.gd_lexer.proofs.TrailLemmas.{stray_trail}
+use Rattle.gd_lexer.proofs.NotedLemmas.{stray_piece}
 use Rattle.gd_lexer.proofs.lexer.Lexer.stray.Goals as goal
 
 pub returns-in_err-stray-clause-first : goal.returns-in_err-stray-clause-first
@@ -19,3 +20,6 @@ returns-clause-trails c =
     let P : Rule → Type 0 = λ r. Strays r old.cursor.glyphs in
     stray_trail old _ c.fault_at.result (subst P (sym c.fault_at.ensures.rule) c.requires.strays) (c.fault_at.ensures.pos ∙ c.pos.ensures.value) c.in_ok-stray.ensures.put_off c.stray.ensures.blank
     c.in_ok-stray.ensures.mixed c.in_ok-stray.ensures.shut c.stray.ensures.keeps.1 refl c.advance.ensures.rest
+
+pub returns-clause-notes : goal.returns-clause-notes
+returns-clause-notes c = stray_piece c.args.self.now _ c.advance.ensures.follows c.in_ok-stray.ensures.hidden refl

@@ -1,10 +1,16 @@
-use Rattle.std.proofs.Common.{arith, rules}
+use Rattle.std.proofs.Common.{ap, sym, subst, arith, rules}
 use Rattle.std.proofs.lemmas.Grind.{common_steps}
-use Rattle.gd_lexer.proofs.StepLemmas.{token_step, token_kept}
+use Rattle.gd_lexer.proofs.StepLemmas.{token_step, token_lead, token_kept}
 use Rattle.std.proofs.Common.{◌∙◌}
 use Rattle.std.proofs.lemmas.Result.{err_from_is_err_and}
 use Rattle.gd_lexer.proofs.StrayLemmas.{token_starts}
 use Rattle.gd_lexer.proofs.TokenLemmas.{unopened_first, read_as, own_first, refused_first, deep_first, inner_first, some_inner}
+use Rattle.gd_lexer.specs.declared.lines.Lead.{Lead}
+use Rattle.gd_lexer.specs.Cursor.{Spot}
+use Rattle.gd_lexer.specs.Follows.{Follows}
+use Rattle.gd_lexer.specs.Token.{IsToken}
+use Rattle.gd_lexer.specs.Found.{FoundList}
+use Rattle.gd_lexer.proofs.NotedLemmas.{token_piece, spelled_on}
 use Rattle.gd_lexer.proofs.lexer.Lexer.token.Goals as goal
 
 pub returns-clause-sound : goal.returns-clause-sound
@@ -62,3 +68,21 @@ returns-in-Some-clause-first c =
     inner_first c.args.self.now c.open_line.new.self c.scan.new.self c.take.new.self c.deepen.new.self c.in_ok-deeper.deeper c.pos-pos.result c.in_ok-kind.kind c.in-Some.fault c.requires.sound.kept
     c.in_ok-deeper.ensures.opens c.open_line.ensures.cursor (c.take.ensures.lines ∙ c.scan.ensures.keeps.1) c.scan.ensures.keeps.2 c.in_ok-take.ensures.room c.in_ok-deepen.ensures.deeper
     (some_inner c.in_ok-kind.kind c.open_line.new.self.cursor c.in_ok-kind.inner c.in-Some.fault c.in-Some.is c.in_ok-kind.ensures.inner)
+
+pub returns-clause-notes : goal.returns-clause-notes
+returns-clause-notes c =
+    let old = c.args.self.now in
+    let a = c.open_line.new.self in
+    let d = c.deepen.new.self in
+    let spot = c.deepen.ensures.cursor ∙ c.take.ensures.cursor in
+    let found = c.take.ensures.found ∙ c.scan.ensures.keeps.0 in
+    let P : Spot → Type 0 = λ s. Follows s d.cursor in
+    let Q : Spot → Type 0 = λ s. Follows a.cursor s in
+    let R : Spot → Type 0 = λ s. IsToken c.in_ok-kind.kind s.glyphs d.cursor.glyphs in
+    let S : Spot → Type 0 = λ s. IsToken c.in_ok-kind.kind a.cursor.glyphs s.glyphs in
+    let lead = token_lead c.in_ok-deeper.deeper old a c.scan.new.self c.take.new.self d c.pos-pos.result c.in_ok-deeper.ensures.opens c.scan.ensures.keeps c.take.ensures.lines c.in_ok-deepen.ensures.deeper c.requires.sound.kept in
+    token_piece old _ d.found c.in_ok-kind.kind c.pos-pos.result c.offset-at.result c.offset.result (subst P c.open_line.ensures.cursor (subst Q (sym spot) c.scan.ensures.follows))
+    (λ none. ap (λ (l : Lead). l.hidden) (sym lead) ∙ none) (subst R c.open_line.ensures.cursor (subst S (sym spot) (c.in_ok-kind.ensures.token c.in_default.is)))
+    (c.push.ensures.comments ∙ c.deepen.ensures.comments ∙ ap (λ (f : FoundList). f.comments) found ∙ c.open_line.ensures.comments)
+    (spelled_on c.pos-pos.result c.offset-at.result old.found a.found c.take.new.self.found d.found c.in_ok-deeper.ensures.spelled found c.in_ok-deepen.ensures.spelled)
+    c.in_ok-push.ensures.tokens c.in_ok-push.ensures.spans c.pos-pos.ensures.value c.offset-at.ensures.value c.offset.ensures.value
