@@ -11,8 +11,17 @@ fn is_int(v: &Value, n: i64) -> bool {
     }
 }
 
+fn are_ints(items: &[Value], wanted: &[i64]) -> bool {
+    items.len() == wanted.len() && items.iter().zip(wanted).all(|(v, n)| is_int(v, *n))
+}
+
 fn holds(a: &TypedArray, wanted: &[i64]) -> bool {
-    a.items().len() == wanted.len() && a.items().iter().zip(wanted).all(|(v, n)| is_int(v, *n))
+    are_ints(a.items(), wanted)
+}
+
+/// Whether the pair has this String as its key, and this int.
+fn is_pair(alloc: Global, key: &Key, v: &Value, name: &str, n: i64) -> Result<bool, Fail> {
+    Ok(*key == word(alloc, name)? && is_int(v, n))
 }
 
 /// An array of these ints.
@@ -77,7 +86,8 @@ fn a_refusal_changes_nothing(rt: HostRuntime) -> Result<(), Fail> {
 fn a_read_only_array_is_not_written(rt: HostRuntime) -> Result<(), Fail> {
     let mut array = array_of(rt.alloc(), &[9, 1, 2])?;
     let old = array.clear()?;
-    assert_eq!(rt; old.len(), 3);
+    assert!(rt; are_ints(old.as_slice(), &[9, 1, 2]));
+    assert!(rt; holds(&array, &[]));
     array.fix();
     let fixed = array.push(Value::Int(1), true);
     assert!(rt; matches!(fixed, Err(ThingFault::Run(RunFault::ReadOnly))));
@@ -86,9 +96,12 @@ fn a_read_only_array_is_not_written(rt: HostRuntime) -> Result<(), Fail> {
 
 #[test]
 fn an_overwritten_key_keeps_its_place(rt: HostRuntime) -> Result<(), Fail> {
-    let dict = dict_of(rt.alloc(), &[("a", 1), ("b", 2), ("a", 3)])?;
-    assert!(rt; dict.at(0).is_some_and(|pair| is_int(pair.1, 3)));
-    assert!(rt; dict.at(1).is_some_and(|pair| is_int(pair.1, 2)));
+    let alloc = rt.alloc();
+    let mut dict = dict_of(alloc, &[("a", 1), ("b", 2), ("a", 3)])?;
+    let pairs = dict.clear()?;
+    assert_eq!(rt; pairs.len(), 2);
+    assert!(rt; is_pair(alloc, &pairs[0].0, &pairs[0].1, "a", 3)?);
+    assert!(rt; is_pair(alloc, &pairs[1].0, &pairs[1].1, "b", 2)?);
     Ok(())
 }
 
@@ -99,14 +112,25 @@ fn an_erased_key_goes_to_the_end(rt: HostRuntime) -> Result<(), Fail> {
     let erased = dict.erase(&word(alloc, "a")?)?;
     assert!(rt; erased.is_some());
     dict.put(word(alloc, "a")?, Value::Int(4), true)?;
+    assert!(rt; dict.at(0).is_some_and(|pair| is_int(pair.1, 2)));
     assert!(rt; dict.at(1).is_some_and(|pair| is_int(pair.1, 4)));
     Ok(())
 }
 
 #[test]
 fn a_cleared_dictionary_answers_its_pairs(rt: HostRuntime) -> Result<(), Fail> {
-    let mut dict = dict_of(rt.alloc(), &[("a", 1)])?;
-    assert_eq!(rt; dict.clear()?.len(), 1);
+    let alloc = rt.alloc();
+    let mut dict = dict_of(alloc, &[("b", 2), ("a", 4)])?;
+    let pairs = dict.clear()?;
+    assert_eq!(rt; dict.size(), 0);
+    assert_eq!(rt; pairs.len(), 2);
+    assert!(rt; is_pair(alloc, &pairs[0].0, &pairs[0].1, "b", 2)?);
+    assert!(rt; is_pair(alloc, &pairs[1].0, &pairs[1].1, "a", 4)?);
+    Ok(())
+}
+
+#[test]
+fn an_int_is_a_key(rt: HostRuntime) -> Result<(), Fail> {
     let key = key_of(&Value::Int(1))?;
     assert!(rt; matches!(key, Key::Int(1)));
     Ok(())

@@ -1,8 +1,11 @@
 -- Answers that fit a meaning.
-use Rattle.std.proofs.Common.{◌≡◌, Option, None, Some, Result, Ok, Err, sym, subst, refl, ap}
+use Rattle.std.proofs.Common.{◌≡◌, Option, None, Some, Result, Ok, Err, sym, subst, refl, ap, ◌∙◌}
+use Rattle.std.specs.Option.{option_copied}
+use Rattle.std.specs.Borrow.{Bor}
 use Rattle.gd_model.specs.declared.fault.RunFault.{RunFault}
 use Rattle.gd_containers.specs.declared.fault.ThingFault.{ThingFault}
-use Rattle.gd_ops.specs.Answer.{exact, and_then, in_form, Answers}
+use Rattle.gd_containers.specs.declared.fault.ThingFault.TheVariants.{NoMemory}
+use Rattle.gd_ops.specs.Answer.{exact, and_then, in_form, there, Answers}
 
 pub exact_answers : {A : Type 0} → (want : Option (Result A RunFault)) → Answers want (exact want)
 exact_answers None = tt
@@ -41,3 +44,13 @@ pub meant : {A : Type 0} → (want : Option (Result A RunFault)) (x : A) → Ok 
 meant None x e = cc
 meant (Some (Err f)) x e = cc
 meant (Some (Ok y)) x e = let same : y ≡ x = cc in ap (λ z. Some (Ok z)) same
+
+-- what is behind the thing that was found
+pub found : {X : Type 0} → (o : Option (Bor X)) (behind : Option X) (x : Bor X) → option_copied o ≡ behind → Ok x ≡ there o → Some x.now ≡ behind
+found {X} None behind x e h = cc
+found {X} (Some y) behind x e h = let same : y ≡ x = cc in ap (λ (z : Bor X). Some z.now) (sym same) ∙ e
+
+-- where none was found, there is none
+pub not_found : {X : Type 0} → (o : Option (Bor X)) (behind : Option X) (f : ThingFault) → option_copied o ≡ behind → Err f ≡ there o → (None ≡ behind) × (f ≡ NoMemory)
+not_found None behind f e h = (e, cc)
+not_found (Some y) behind f e h = (cc, cc)

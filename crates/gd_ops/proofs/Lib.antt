@@ -9,3 +9,9 @@ pub mod KnownTypes
 pub mod Ranges
 pub mod BuiltinTable
 pub mod OperatorTable
+pub mod Deep
+pub mod Misfits
+pub mod Whole
+pub mod SameType
+pub mod Answered
+pub mod AnsweredCalls

@@ -1,23 +1,23 @@
 -- An operator that there is for the kinds of its operands has no bad operands.
-use Rattle.std.proofs.Common.{◌≡◌, ℕ, zero, suc, Bool, true, false, ◌||◌, List, [], ◌∷◌, length, nat_le, nat_eq, ◌==◌, ◌%◌, ◌+◌, ◌++◌, not, option_map, is_some, Option, None, Some, Result, Ok, Err, refl, ap, sym, subst, ◌∙◌, ℤ, pos, negsuc, int_rem, if◌then◌else◌}
+use Rattle.std.proofs.Common.{◌≡◌, ℕ, suc, Bool, true, false, ◌||◌, List, [], ◌∷◌, length, nat_le, ◌==◌, ◌%◌, ◌++◌, not, option_map, is_some, Option, None, Some, Result, Ok, Err, refl, ap, sym, subst, ◌∙◌, ℤ, pos, negsuc, int_rem, if◌then◌else◌}
 use Rattle.std.specs.Ordering.{int_eq}
 use Rattle.std.specs.Int.{w64, int_wrapping_div}
 use Rattle.slot_arena.specs.declared.handle.Handle.{Handle}
 use Rattle.gd_syntax.specs.declared.operator.Operator.{Operator}
 use Rattle.gd_syntax.specs.declared.operator.Operator.TheVariants.{Power, Divide, Remainder, Add, ShiftLeft, ShiftRight, Equal, NotEqual, Less, LessEqual, Greater, GreaterEqual, In, NotIn, Negate, Plus, Complement, Not}
 use Rattle.gd_model.specs.declared.fault.RunFault.{RunFault}
-use Rattle.gd_model.specs.declared.fault.RunFault.TheVariants.{BadOperands, ZeroDivisorOrStep, TooLong}
+use Rattle.gd_model.specs.declared.fault.RunFault.TheVariants.{BadOperands, ZeroDivisorOrStep, TooLong, TooDeepToCompare}
 use Rattle.gd_model.specs.declared.value.Key.{Key}
 use Rattle.gd_model.specs.declared.value.Value.{Value}
 use Rattle.gd_model.specs.declared.value.Value.TheVariants as v
 use Rattle.gd_model.specs.Store.{Thing, array_behind, dict_behind}
-use Rattle.gd_model.specs.Thing.{ArrayThing, DictThing, value_at}
+use Rattle.gd_model.specs.Thing.{ArrayThing, DictThing}
 use Rattle.gd_containers.specs.declared.fault.ThingFault.{ThingFault}
 use Rattle.gd_containers.specs.declared.fault.ThingFault.TheVariants.{Run}
 use Rattle.gd_ops.specs.declared.fresh.Fresh.{Fresh}
 use Rattle.gd_ops.specs.declared.fresh.Fresh.TheVariants.{Value as Made}
-use Rattle.gd_ops.specs.Answer.{and_then, in_form, Answers}
-use Rattle.gd_ops.specs.Equality.{and_also, same_items, same_at, same_pairs, same_arrays, same_dicts, arrays_by, dicts_by, same_by, inside, same}
+use Rattle.gd_ops.specs.Answer.{in_form, Answers}
+use Rattle.gd_ops.specs.Equality.{same}
 use Rattle.gd_ops.specs.Ints.{answer, ints_give, power, shifted_left, shifted_right}
 use Rattle.gd_ops.specs.Kinds as kinds
 use Rattle.gd_ops.specs.Kinds.{kind_of, takes, is_unary, alike}
@@ -25,6 +25,7 @@ use Rattle.gd_ops.specs.declared.kind.Kind.TheVariants as k
 use Rattle.gd_text.specs.declared.formatting.Arg.TheVariants as arg
 use Rattle.gd_ops.specs.Formatted.{arguments, FormatGives}
 use Rattle.gd_ops.specs.Texts.{TextsGive, text_meant}
+use Rattle.gd_ops.proofs.Deep.{deep_only, deep_same, deep_place}
 use Rattle.gd_ops.specs.Values.{Applies, OthersGive, SumGives, RestGives, Joins, equal, truth, is_inside, is_element, has_key, as_key, first_place, one_int, bool_made}
 
 -- a meaning that does not refuse its operands
@@ -36,83 +37,22 @@ fine_form form None f e = cc
 fine_form form (Some (Err g)) f e = let same : g ≡ BadOperands = cc in f (ap (λ x. Some (Err x)) same)
 fine_form form (Some (Ok x)) f e = cc
 
-fine_then : {A B : Type 0} → (more : A → Option (Result B RunFault)) (m : Option (Result A RunFault)) → Fine m → ((x : A) → Fine (more x)) → Fine (and_then m more)
-fine_then more None f g e = cc
-fine_then more (Some (Err h)) f g e = let same : h ≡ BadOperands = cc in f (ap (λ x. Some (Err x)) same)
-fine_then more (Some (Ok x)) f g e = g x e
-
-fine_if : {A : Type 0} → (b : Bool) (m n : Option (Result A RunFault)) → Fine m → Fine n → Fine (if b then m else n)
-fine_if true m n f g = f
-fine_if false m n f g = g
-
-fine_ok : {A : Type 0} → (x : A) → Fine (Some (Ok x))
-fine_ok x e = cc
-
-fine_also : (m n : Option (Result Bool RunFault)) → Fine m → Fine n → Fine (and_also m n)
-fine_also m n f g = fine_then (λ yes. if yes then n else Some (Ok false)) m f (λ yes. fine_if yes n (Some (Ok false)) g (fine_ok false))
-
-fine_items : (eq : Value → Value → Option (Result Bool RunFault)) → ((x y : Value) → Fine (eq x y)) → (xs ys : List Value) → Fine (same_items eq xs ys)
-fine_items eq f [] ys = fine_ok true
-fine_items eq f (x ∷ xs) [] = fine_ok true
-fine_items eq f (x ∷ xs) (y ∷ ys) = fine_also (eq x y) (same_items eq xs ys) (f x y) (fine_items eq f xs ys)
-
-fine_at : (eq : Value → Value → Option (Result Bool RunFault)) → ((x y : Value) → Fine (eq x y)) → (x : Value) (o : Option Value) → Fine (same_at eq x o)
-fine_at eq f x None = fine_ok false
-fine_at eq f x (Some w) = f x w
-
-fine_pairs : (eq : Value → Value → Option (Result Bool RunFault)) → ((x y : Value) → Fine (eq x y)) → (ps others : List (Key × Value)) → Fine (same_pairs eq ps others)
-fine_pairs eq f [] others = fine_ok true
-fine_pairs eq f (p ∷ ps) others = fine_also (same_at eq p.1 (value_at others p.0)) (same_pairs eq ps others) (fine_at eq f p.1 (value_at others p.0)) (fine_pairs eq f ps others)
-
-fine_arrays : (eq : Value → Value → Option (Result Bool RunFault)) → ((x y : Value) → Fine (eq x y)) → (a b : Option ArrayThing) → Fine (same_arrays eq a b)
-fine_arrays eq f None b e = cc
-fine_arrays eq f (Some x) None e = cc
-fine_arrays eq f (Some x) (Some y) e = fine_if (length x.items == length y.items) (same_items eq x.items y.items) (Some (Ok false)) (fine_items eq f x.items y.items) (fine_ok false) e
-
-fine_dicts : (eq : Value → Value → Option (Result Bool RunFault)) → ((x y : Value) → Fine (eq x y)) → (a b : Option DictThing) → Fine (same_dicts eq a b)
-fine_dicts eq f None b e = cc
-fine_dicts eq f (Some x) None e = cc
-fine_dicts eq f (Some x) (Some y) e = fine_if (length x.pairs == length y.pairs) (same_pairs eq x.pairs y.pairs) (Some (Ok false)) (fine_pairs eq f x.pairs y.pairs) (fine_ok false) e
-
--- how what lies inside is compared is fine, where it is compared
-abbrev FineInside : Option (Value → Value → Option (Result Bool RunFault)) → Type 0
-FineInside i = (f : Value → Value → Option (Result Bool RunFault)) → i ≡ Some f → (x y : Value) → Fine (f x y)
-
-fine_arrays_by : (things : Handle → Option Thing) (i : Option (Value → Value → Option (Result Bool RunFault))) → FineInside i → (h j : Handle) → Fine (arrays_by things i h j)
-fine_arrays_by things None f h j e = cc
-fine_arrays_by things (Some eq) f h j e = fine_arrays eq (f eq refl) (array_behind (things h)) (array_behind (things j)) e
-
-fine_dicts_by : (things : Handle → Option Thing) (i : Option (Value → Value → Option (Result Bool RunFault))) → FineInside i → (h j : Handle) → Fine (dicts_by things i h j)
-fine_dicts_by things None f h j e = cc
-fine_dicts_by things (Some eq) f h j e = fine_dicts eq (f eq refl) (dict_behind (things h)) (dict_behind (things j)) e
-
-fine_by : (things : Handle → Option Thing) (i : Option (Value → Value → Option (Result Bool RunFault))) → FineInside i → (a b : Value) → Fine (same_by things i a b)
-fine_by things i f (v.Array h) (v.Array j) e = fine_if (nat_eq h.serial j.serial) (Some (Ok true)) (arrays_by things i h j) (fine_ok true) (fine_arrays_by things i f h j) e
-fine_by things i f (v.Dict h) (v.Dict j) e = fine_if (nat_eq h.serial j.serial) (Some (Ok true)) (dicts_by things i h j) (fine_ok true) (fine_dicts_by things i f h j) e
-fine_by things i f _ _ e = cc
-
-fine_inside : (things : Handle → Option Thing) (room : ℕ) → FineInside (inside things room)
-unfolding inside
-fine_inside things zero f e x y = λ b. cc
-fine_inside things (suc room) f e x y =
-    let same : same_by things (inside things room) ≡ f = cc in
-    subst (λ (eq : Value → Value → Option (Result Bool RunFault)). Fine (eq x y)) same (fine_by things (inside things room) (fine_inside things room) x y)
+-- what refuses only what is too deep does not refuse its operands
+fine_deep : {A : Type 0} → (m : Option (Result A RunFault)) → deep_only m ≡ true → Fine m
+fine_deep None h e = cc
+fine_deep (Some (Ok x)) h e = cc
+fine_deep (Some (Err TooDeepToCompare)) h e = cc
+fine_deep (Some (Err _)) h e = cc
 
 fine_same : (things : Handle → Option Thing) (a b : Value) → Fine (same things a b)
-fine_same things a b = fine_by things (inside things 64) (fine_inside things 64) a b
+fine_same things a b = fine_deep (same things a b) (deep_same things a b)
 
 fine_equal : (things : Handle → Option Thing) (a b : Value) → alike (kind_of a) (kind_of b) ≡ true → Fine (equal things a b)
 fine_equal things a b t e = fine_same things a b (ap (λ yes. if yes then same things a b else Some (Err BadOperands)) (sym t) ∙ e)
 
-fine_place : (test : Value → Option (Result Bool RunFault)) → ((x : Value) → Fine (test x)) → (place : ℕ) (xs : List Value) → Fine (first_place test place xs)
-fine_place test f place [] = fine_ok None
-fine_place test f place (x ∷ xs) =
-    fine_then (λ yes. if yes then Some (Ok (Some place)) else first_place test (place + 1) xs) (test x) (f x)
-    (λ yes. fine_if yes (Some (Ok (Some place))) (first_place test (place + 1) xs) (fine_ok (Some place)) (fine_place test f (place + 1) xs))
-
 fine_element : (things : Handle → Option Thing) (x : Value) (a : Option ArrayThing) → Fine (is_element things x a)
 fine_element things x None e = cc
-fine_element things x (Some a) e = fine_form is_some (first_place (λ y. same things y x) 0 a.items) (fine_place (λ y. same things y x) (λ y. fine_same things y x) 0 a.items) e
+fine_element things x (Some a) e = fine_form is_some (first_place (λ y. same things y x) 0 a.items) (fine_deep (first_place (λ y. same things y x) 0 a.items) (deep_place (λ y. same things y x) (λ y. deep_same things y x) 0 a.items)) e
 
 fine_key : (k : Option Key) (d : Option DictThing) → Fine (has_key k d)
 fine_key None d e = cc

@@ -30,3 +30,8 @@ abbrev pub Answers : {A : Type 0} → Option (Result A RunFault) → Result A Th
 Answers want (Ok x) = want ≡ Some (Ok x)
 Answers want (Err (Run f)) = want ≡ Some (Err f)
 Answers want (Err NoMemory) = ⊤
+
+-- what a look-up gave, as the answer of a call that goes on with it
+abbrev pub there : {A : Type 0} → Option A → Result A ThingFault
+there None = Err NoMemory
+there (Some x) = Ok x

@@ -12,3 +12,5 @@ pub mod Values
 pub mod Printed
 pub mod BuiltinRows
 pub mod OperatorRows
+pub mod Parameters
+pub mod Whole

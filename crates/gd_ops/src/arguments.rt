@@ -6,21 +6,25 @@ ghost use Rattle.gd_ops.specs.Formatted as spec;
 ghost use Rattle.gd_ops.specs.Formatted.{FormatGives};
 ghost use Rattle.gd_ops.specs.Arguments.{IsArgument, AllStand, limited};
 
-use crate::equality::never_comes;
 use crate::fresh::{Fresh, refused};
 use crate::print::text_of;
 use crate::texts::formatted;
+use crate::there::there;
 use gd_containers::{Look, ThingFault};
 use gd_model::{RunFault, Value};
 use gd_syntax::{Text, TextFault};
 use gd_text::Arg;
+use smallvec::SmallVec;
 use std::alloc::Global;
+
+/// How many arguments a pattern takes without memory of their own.
+const FEW: usize = 4;
 
 /// The arguments of a pattern. An empty text stands in for a printed form that passes the limit of a text: the pattern
 /// may still not fit them, and that fault goes first.
 #[derive(Drop)]
 struct Arguments {
-    list: Vec<Arg>,
+    list: SmallVec<Arg, FEW>,
     too_long: bool,
 }
 
@@ -35,10 +39,7 @@ pub fn format_with<K: Look>(
     ensures { FormatGives pattern.now (spec.arguments (K.things look.now) (K.names look.now) v.now) result }
 {
     match v {
-        Value::Array(h) => match look.array(*h) {
-            Some(array) => format_all(alloc, pattern, array.items(), look),
-            None => Err(never_comes()),
-        },
+        Value::Array(h) => format_all(alloc, pattern, there(look.array(*h))?.items(), look),
         _ => format_one(alloc, pattern, v, look),
     }
 }
@@ -76,7 +77,7 @@ impl Arguments {
         ensures { AllStand [] result.list.items result.too_long }
     {
         Arguments {
-            list: Vec::new(alloc),
+            list: SmallVec::new(alloc),
             too_long: false,
         }
     }
@@ -114,7 +115,7 @@ fn within(too_long: bool, made: Result<Fresh, ThingFault>) -> Result<Fresh, Thin
     }
 }
 
-fn push(list: &mut Vec<Arg>, arg: Arg) -> Result<(), ThingFault>
+fn push(list: &mut SmallVec<Arg, FEW>, arg: Arg) -> Result<(), ThingFault>
     ensures ok { OnOk result (list.new.items ≡ list.old.items ++ arg ∷ []) }
     ensures err { IfErr result (λ fault. fault ≡ ThingFault.NoMemory) }
 {

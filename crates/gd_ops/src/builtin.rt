@@ -100,6 +100,8 @@ pub enum Builtin {
 /// What the builtin gives with these arguments, the receiver of a method being the first. `WrongNumberOfArguments`,
 /// then `ValueOfAnotherType`, then the faults of the builtin itself. The methods that write, and those of Callable
 /// and Signal, are refused with `NoSuchMethod`: the machine has them.
+/// The calls that the builtin's row does not take are refused as the row says, and no others as such: the laws
+/// `misfits_are_refused` and `fitting_calls_are_taken`.
 pub fn call_builtin<K: Look>(
     alloc: Global,
     builtin: Builtin,

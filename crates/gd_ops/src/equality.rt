@@ -3,8 +3,9 @@ ghost use Rattle.std.specs.Prelude.{◌≡◌, length};
 ghost use Rattle.gd_ops.specs.Answer.{exact};
 ghost use Rattle.gd_ops.specs.Equality as spec;
 
+use crate::there::there;
 use gd_containers::{Look, OrderedDict, ThingFault};
-use gd_model::{RunFault, Target, Value, impossible};
+use gd_model::{RunFault, Target, Value};
 use slot_arena::Handle;
 
 /// How many containers deep two values are compared.
@@ -41,12 +42,8 @@ fn same_arrays<K: Look>(h: Handle, i: Handle, look: &K, room: u32) -> Result<boo
     if room == 0 {
         return Err(ThingFault::Run(RunFault::TooDeepToCompare));
     }
-    let Some(x) = look.array(h) else {
-        return Err(never_comes());
-    };
-    let Some(y) = look.array(i) else {
-        return Err(never_comes());
-    };
+    let x = there(look.array(h))?;
+    let y = there(look.array(i))?;
     if x.size() != y.size() {
         return Ok(false);
     }
@@ -73,12 +70,8 @@ fn same_dicts<K: Look>(h: Handle, i: Handle, look: &K, room: u32) -> Result<bool
     if room == 0 {
         return Err(ThingFault::Run(RunFault::TooDeepToCompare));
     }
-    let Some(x) = look.dict(h) else {
-        return Err(never_comes());
-    };
-    let Some(y) = look.dict(i) else {
-        return Err(never_comes());
-    };
+    let x = there(look.dict(h))?;
+    let y = there(look.dict(i))?;
     if x.size() != y.size() {
         return Ok(false);
     }
@@ -106,15 +99,6 @@ fn same_pairs<K: Look>(
         }
     }
     Ok(true)
-}
-
-/// The answer for a case that does not come: a handle without its thing, or text that is not UTF-8 from a call that
-/// reads no bytes.
-pub fn never_comes() -> ThingFault
-    ensures { result ≡ ThingFault.NoMemory }
-{
-    let _ = impossible();
-    ThingFault::NoMemory
 }
 
 /// Whether the two are of one kind and equal, things being equal where they are one thing.

@@ -5,8 +5,9 @@ ghost use Rattle.gd_ops.specs.Answer.{and_then, exact, in_form};
 ghost use Rattle.gd_ops.specs.Functions as spec;
 
 use crate::builtin::Builtin;
-use crate::equality::{is_same, never_comes};
+use crate::equality::is_same;
 use crate::fresh::{Fresh, boolean, int, refused};
+use crate::there::there;
 use gd_containers::{Look, ThingFault};
 use gd_model::{RunFault, Value};
 use gd_text::to_int;
@@ -230,14 +231,8 @@ fn length_of<K: Look>(v: &Value, look: &K) -> Result<i64, ThingFault>
 {
     match v {
         Value::Str(text) => Ok(i64::from(text.length())),
-        Value::Array(h) => match look.array(*h) {
-            Some(array) => Ok(i64::from(array.size())),
-            None => Err(never_comes()),
-        },
-        Value::Dict(h) => match look.dict(*h) {
-            Some(dict) => Ok(i64::from(dict.size())),
-            None => Err(never_comes()),
-        },
+        Value::Array(h) => Ok(i64::from(there(look.array(*h))?.size())),
+        Value::Dict(h) => Ok(i64::from(there(look.dict(*h))?.size())),
         _ => refused(RunFault::ValueOfAnotherType),
     }
 }

@@ -4,9 +4,9 @@ ghost use Rattle.gd_ops.specs.Methods.{MethodGives, ReceiverGives};
 use crate::array_methods::call_on_array;
 use crate::builtin::Builtin;
 use crate::dict_methods::call_on_dict;
-use crate::equality::never_comes;
 use crate::fresh::{Fresh, refused};
 use crate::text_methods::call_on_text;
+use crate::there::there;
 use gd_containers::{Look, ThingFault};
 use gd_model::{RunFault, Value};
 use std::alloc::Global;
@@ -38,14 +38,8 @@ fn call_on<K: Look>(
 {
     match receiver {
         Value::Str(a) => call_on_text(alloc, method, a, args, look),
-        Value::Array(h) => match look.array(*h) {
-            Some(a) => call_on_array(alloc, method, a, args, look),
-            None => Err(never_comes()),
-        },
-        Value::Dict(h) => match look.dict(*h) {
-            Some(d) => call_on_dict(alloc, method, d, args, look),
-            None => Err(never_comes()),
-        },
+        Value::Array(h) => call_on_array(alloc, method, there(look.array(*h))?, args, look),
+        Value::Dict(h) => call_on_dict(alloc, method, there(look.dict(*h))?, args, look),
         Value::Nil => refused(RunFault::NullReceiver),
         _ => refused(RunFault::NoSuchMethod),
     }

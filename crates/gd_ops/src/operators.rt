@@ -8,12 +8,13 @@ ghost use Rattle.gd_ops.specs.Values as spec;
 ghost use Rattle.gd_ops.specs.Values.{Applies, OthersGive, SumGives, RestGives, Joins};
 
 use crate::arguments::format_with;
-use crate::equality::{never_comes, same};
+use crate::equality::same;
 use crate::fresh::{Fresh, boolean, refused};
 use crate::ints::{apply_int, apply_ints};
 use crate::kind::kind_of;
 use crate::rows::alike;
 use crate::texts::apply_texts;
+use crate::there::there;
 use gd_containers::{Look, MAX_ITEMS, ThingFault, TypedArray, key_of};
 use gd_model::{RunFault, Ty, Value};
 use gd_syntax::Operator;
@@ -135,14 +136,8 @@ pub fn truth<K: Look>(v: &Value, look: &K) -> Result<bool, ThingFault>
         Value::Bool(b) => Ok(*b),
         Value::Int(n) => Ok(*n != 0),
         Value::Str(text) => Ok(text.length() != 0),
-        Value::Array(h) => match look.array(*h) {
-            Some(array) => Ok(array.size() != 0),
-            None => Err(never_comes()),
-        },
-        Value::Dict(h) => match look.dict(*h) {
-            Some(dict) => Ok(dict.size() != 0),
-            None => Err(never_comes()),
-        },
+        Value::Array(h) => Ok(there(look.array(*h))?.size() != 0),
+        Value::Dict(h) => Ok(there(look.dict(*h))?.size() != 0),
         Value::Object(_) | Value::Callable(_) | Value::Signal(_, _) => Ok(true),
     }
 }
@@ -162,23 +157,15 @@ fn is_inside<K: Look>(v: &Value, container: &Value, look: &K) -> Result<bool, Th
 fn is_element<K: Look>(v: &Value, h: Handle, look: &K) -> Result<bool, ThingFault>
     ensures { result ≡ exact (spec.is_element (K.things look.now) v.now (array_behind (K.things look.now h))) }
 {
-    match look.array(h) {
-        Some(array) => match first_place(array, v, 0, look) {
-            Ok(place) => Ok(place.is_some()),
-            Err(fault) => Err(fault),
-        },
-        None => Err(never_comes()),
-    }
+    let array = there(look.array(h))?;
+    Ok(first_place(array, v, 0, look)?.is_some())
 }
 
 fn has_key<K: Look>(v: &Value, h: Handle, look: &K) -> Result<bool, ThingFault>
     ensures { Answers (spec.has_key (spec.as_key v.now) (dict_behind (K.things look.now h))) result }
 {
     let key = key_of(v)?;
-    match look.dict(h) {
-        Some(dict) => Ok(dict.get(&key).is_some()),
-        None => Err(never_comes()),
-    }
+    Ok(there(look.dict(h))?.get(&key).is_some())
 }
 
 /// The first place from `from` on at which the array has an element that equals the value, the element being the left
@@ -205,9 +192,8 @@ pub fn first_place<K: Look>(
 fn joined<K: Look>(alloc: Global, h: Handle, i: Handle, look: &K) -> Result<Fresh, ThingFault>
     ensures { Joins (array_behind (K.things look.now h)) (array_behind (K.things look.now i)) result }
 {
-    let (Some(x), Some(y)) = (look.array(h), look.array(i)) else {
-        return Err(never_comes());
-    };
+    let x = there(look.array(h))?;
+    let y = there(look.array(i))?;
     if x.items().len() + y.items().len() > MAX_ITEMS {
         return refused(RunFault::TooLong);
     }

@@ -6,9 +6,9 @@ ghost use Rattle.gd_containers.specs.Keys.{key_value};
 ghost use Rattle.gd_ops.specs.Printed as spec;
 ghost use Rattle.gd_ops.specs.Printed.{Puts, GivesForm, GivesFormString};
 
-use crate::equality::never_comes;
 use crate::fresh::Fresh;
 use crate::texts::text_refusal;
+use crate::there::there;
 use gd_containers::{Look, OrderedDict, ThingFault, TypedArray};
 use gd_model::{Key, RunFault, Value};
 use gd_syntax::{MAX_TEXT, Text};
@@ -146,12 +146,8 @@ fn put_serial(out: &mut Vec<char>, n: u64) -> Result<(), ThingFault>
 fn put_object<K: Look>(out: &mut Vec<char>, h: Handle, look: &K) -> Result<(), ThingFault>
     ensures { Puts (spec.object_form h.serial (option_and_then (K.names look.now) (class_behind (K.things look.now h)))) out.old.items out.new.items result }
 {
-    let Some(class) = look.class_of(h) else {
-        return Err(never_comes());
-    };
-    let Some(name) = look.class_name(class) else {
-        return Err(never_comes());
-    };
+    let class = there(look.class_of(h))?;
+    let name = there(look.class_name(class))?;
     put(out, '<')?;
     put_text(out, name)?;
     put(out, '#')?;
@@ -165,23 +161,6 @@ fn put_named(out: &mut Vec<char>, word: &str, name: &Text) -> Result<(), ThingFa
     put_word(out, word)?;
     put_text(out, name)?;
     put(out, '>')
-}
-
-/// A value that is no container.
-fn put_plain<K: Look>(out: &mut Vec<char>, v: &Value, look: &K) -> Result<(), ThingFault>
-    ensures { Puts (spec.plain_form (K.things look.now) (K.names look.now) v.now) out.old.items out.new.items result }
-{
-    match v {
-        Value::Nil => put_word(out, "<null>"),
-        Value::Bool(true) => put_word(out, "true"),
-        Value::Bool(false) => put_word(out, "false"),
-        Value::Int(n) => put_int(out, *n),
-        Value::Str(text) => put_quoted(out, text),
-        Value::Object(h) => put_object(out, *h, look),
-        Value::Callable(target) => put_named(out, "<callable ", &target.name),
-        Value::Signal(_, name) => put_named(out, "<signal ", name),
-        Value::Array(_) | Value::Dict(_) => Err(never_comes()),
-    }
 }
 
 fn put_key<K: Look>(out: &mut Vec<char>, key: &Key, look: &K) -> Result<(), ThingFault>
@@ -203,9 +182,16 @@ fn put_value<K: Look>(out: &mut Vec<char>, v: &Value, look: &K, room: u32) -> Re
     ensures { Puts (spec.form_by (K.things look.now) (K.names look.now) (spec.inside (K.things look.now) (K.names look.now) room) v.now) out.old.items out.new.items result }
 {
     match v {
+        Value::Nil => put_word(out, "<null>"),
+        Value::Bool(true) => put_word(out, "true"),
+        Value::Bool(false) => put_word(out, "false"),
+        Value::Int(n) => put_int(out, *n),
+        Value::Str(text) => put_quoted(out, text),
+        Value::Object(h) => put_object(out, *h, look),
         Value::Array(h) => put_array(out, *h, look, room),
         Value::Dict(h) => put_dict(out, *h, look, room),
-        _ => put_plain(out, v, look),
+        Value::Callable(target) => put_named(out, "<callable ", &target.name),
+        Value::Signal(_, name) => put_named(out, "<signal ", name),
     }
 }
 
@@ -216,9 +202,7 @@ fn put_array<K: Look>(out: &mut Vec<char>, h: Handle, look: &K, room: u32) -> Re
     if room == 0 {
         return put_word(out, "[...]");
     }
-    let Some(array) = look.array(h) else {
-        return Err(never_comes());
-    };
+    let array = there(look.array(h))?;
     put(out, '[')?;
     put_items(out, array.items(), look, room - 1)?;
     put(out, ']')
@@ -251,9 +235,7 @@ fn put_dict<K: Look>(out: &mut Vec<char>, h: Handle, look: &K, room: u32) -> Res
     if room == 0 {
         return put_word(out, "{...}");
     }
-    let Some(dict) = look.dict(h) else {
-        return Err(never_comes());
-    };
+    let dict = there(look.dict(h))?;
     if dict.size() == 0 {
         return put_word(out, "{  }");
     }

@@ -4,6 +4,7 @@ mod dictionaries;
 mod fixture;
 mod formatting;
 mod functions;
+mod limits;
 mod operators;
 mod refusals;
 mod rows;

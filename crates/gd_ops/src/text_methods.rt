@@ -10,13 +10,13 @@ ghost use Rattle.gd_text.specs.Search as search;
 ghost use Rattle.gd_text.specs.Text.{substr};
 
 use crate::builtin::Builtin;
-use crate::equality::never_comes;
 use crate::fresh::{Fresh, boolean, int, refused};
 use crate::functions::one_int;
 use crate::misfit::misfit;
 use crate::operators::push;
 use crate::print::joined;
 use crate::texts::{text, text_refusal};
+use crate::there::there;
 use gd_containers::{Look, MAX_ITEMS, ThingFault, TypedArray};
 use gd_model::{RunFault, Ty, Value};
 use gd_syntax::Text;
@@ -44,10 +44,7 @@ fn join<K: Look>(alloc: Global, a: &Text, args: &[Value], look: &K) -> Result<Fr
     ensures { JoinGives (K.things look.now) (K.names look.now) a.now args.now result }
 {
     match args {
-        [Value::Array(h)] => match look.array(*h) {
-            Some(parts) => joined(alloc, parts.items(), a.chars(), look),
-            None => Err(never_comes()),
-        },
+        [Value::Array(h)] => joined(alloc, there(look.array(*h))?.items(), a.chars(), look),
         _ => misfit(args, 1, 1),
     }
 }

@@ -5,7 +5,6 @@ ghost use Rattle.gd_ops.specs.Answer.{Answers};
 ghost use Rattle.gd_text.specs.Text.{Gives};
 ghost use Rattle.std.specs.Prelude.{◌≡◌, List, ℕ, Option, Some};
 
-use crate::equality::never_comes;
 use crate::fresh::{Fresh, boolean, refused};
 use gd_containers::ThingFault;
 use gd_model::{RunFault, Value};
@@ -14,20 +13,22 @@ use gd_text::{Arg, FormatFault, concat, find, format};
 use std::alloc::Global;
 use std::cmp::Ordering;
 
-/// The refusal that a fault of a text call is.
+/// The refusal that a fault of a text call is which reads no bytes.
 pub fn text_refusal(fault: TextFault) -> ThingFault
+    requires { ¬ (fault ≡ TextFault.NotUtf8) }
     ensures { result ≡ text_fault fault }
 {
     match fault {
         TextFault::TooLong => ThingFault::Run(RunFault::TooLong),
         TextFault::OutOfRange => ThingFault::Run(RunFault::OutOfRange),
-        TextFault::NotUtf8 => never_comes(),
+        TextFault::NotUtf8 => unreachable!(),
         TextFault::NoMemory => ThingFault::NoMemory,
     }
 }
 
-/// The text as what a call gives.
+/// The text as what a call gives which reads no bytes.
 pub fn text(made: Result<Text, TextFault>) -> Result<Fresh, ThingFault>
+    requires { ¬ (made ≡ Err TextFault.NotUtf8) }
     ensures { (want : Option (List ℕ)) → Gives want made → Answers (text_meant want) result }
 {
     match made {

@@ -19,6 +19,13 @@ pub enum Arg {
     Other(Text),
 }
 
+/// What fills the free places of a list of arguments.
+impl Default for Arg {
+    fn default() -> Arg {
+        Arg::Num(0)
+    }
+}
+
 /// Why a pattern gives no text.
 #[derive(Clone, Copy, Debug, PartialEq, Eq, Drop, Error)]
 pub enum FormatFault {

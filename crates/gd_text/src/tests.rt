@@ -39,26 +39,46 @@ fn cuts_and_joins(rt: HostRuntime) -> Result<(), Fail> {
 }
 
 #[test]
-fn finds_and_splits(rt: HostRuntime) -> Result<(), Fail> {
+fn finds(rt: HostRuntime) -> Result<(), Fail> {
     let alloc = rt.alloc();
     let a = text(alloc, "ab ab")?;
     assert_eq!(rt; find(&a, &text(alloc, "")?, 0), None);
     assert_eq!(rt; find(&a, &text(alloc, "b")?, 2), Some(4));
     assert_eq!(rt; find(&a, &text(alloc, "b")?, -1), None);
-    let parts = split(alloc, &a, &text(alloc, " ")?, true)?;
-    assert_eq!(rt; parts.len(), 2);
-    assert!(rt; parts[0] == parts[1]);
     let aaa = text(alloc, "aaa")?;
     let aa = text(alloc, "aa")?;
     assert!(rt; is(alloc, replace(alloc, &aaa, &aa, &text(alloc, "b")?), "ba"));
-    assert_eq!(rt;
-        split(alloc, &text(alloc, "")?, &text(alloc, "")?, true)?.len(),
-        0
-    );
-    assert_eq!(rt;
-        split(alloc, &text(alloc, ",a,,")?, &text(alloc, ",")?, false)?.len(),
-        1
-    );
+    Ok(())
+}
+
+/// A text, what it is split by, whether empty parts count, and the parts.
+const SPLITS: &[(&str, &str, bool, &[&str])] = &[
+    ("ab ab", " ", true, &["ab", "ab"]),
+    ("ab", "", true, &["a", "b"]),
+    ("", "", true, &[]),
+    (",a,,", ",", true, &["", "a", "", ""]),
+    (",a,,", ",", false, &["a"]),
+];
+
+fn are(alloc: Global, parts: &[Text], wanted: &[&str]) -> Result<bool, TextFault> {
+    if parts.len() != wanted.len() {
+        return Ok(false);
+    }
+    for i in 0..parts.len() {
+        if !(parts[i] == text(alloc, wanted[i])?) {
+            return Ok(false);
+        }
+    }
+    Ok(true)
+}
+
+#[test]
+fn splits(rt: HostRuntime) -> Result<(), Fail> {
+    let alloc = rt.alloc();
+    for (a, by, empty, wanted) in SPLITS {
+        let parts = split(alloc, &text(alloc, a)?, &text(alloc, by)?, *empty)?;
+        assert!(rt; are(alloc, parts.as_slice(), wanted)?, "{a}");
+    }
     Ok(())
 }
 

@@ -32,6 +32,8 @@ fn use_again<L: Ledger, R: Abort>(rt: &R, alloc: Global, blank: Blank) -> Result
     assert_eq!(rt; slots.count(first), None);
     assert_eq!(rt; slots.get(second).copied(), Some('b'));
     assert_eq!(rt; slots.get(third).copied(), Some('c'));
+    let alive = slots.entries(alloc)?;
+    assert_eq!(rt; alive.as_slice(), [second, third].as_slice());
     Ok(())
 }
 

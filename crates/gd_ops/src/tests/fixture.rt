@@ -160,6 +160,21 @@ pub fn only_arrays(alloc: Global, arrays: Vec<TypedArray>) -> Store {
     }
 }
 
+/// Puts the arrays from the place `first` on up to `last`: each but the last has the next one as its one element.
+pub fn put_chain(
+    alloc: Global,
+    arrays: &mut Vec<TypedArray>,
+    first: u64,
+    last: u64,
+    end: &[Short],
+) -> Result<(), Fail> {
+    for at in first..last {
+        arrays.push(array_of(alloc, Ty::Variant, &[Short::Array(at + 1)])?)?;
+    }
+    arrays.push(array_of(alloc, Ty::Variant, end)?)?;
+    Ok(())
+}
+
 /// What a call is to give.
 #[derive(Clone, Copy)]
 pub enum Want {

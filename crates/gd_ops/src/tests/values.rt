@@ -1,7 +1,9 @@
 //! Equality, truth and printed forms.
 use super::fixture::Short::{Array, Bool, Dict, Int, Nil, Object, Str};
-use super::fixture::{Short, Store, array_of, only_arrays, text, things, value};
-use crate::{Kind, kind_of, same, text_of, truth};
+use super::fixture::{
+    Short, Store, Want, array_of, gave, only_arrays, put_chain, text, things, value,
+};
+use crate::{Builtin, Kind, call_builtin, kind_of, same, text_of, truth};
 use gd_containers::{ThingFault, TypedArray};
 use gd_model::{RunFault, Target, Ty, Value};
 use slot_arena::Handle;
@@ -31,21 +33,6 @@ fn equal_values(rt: HostRuntime) -> Result<(), Fail> {
         let (a, b) = (value(alloc, *a)?, value(alloc, *b)?);
         assert!(rt; matches!(same(&a, &b, &things), Ok(yes) if yes == *wanted));
     }
-    Ok(())
-}
-
-/// Puts the arrays from the place `first` on up to `last`: each but the last has the next one as its one element.
-fn put_chain(
-    alloc: Global,
-    arrays: &mut Vec<TypedArray>,
-    first: u64,
-    last: u64,
-    end: &[Short],
-) -> Result<(), Fail> {
-    for at in first..last {
-        arrays.push(array_of(alloc, Ty::Variant, &[Array(at + 1)])?)?;
-    }
-    arrays.push(array_of(alloc, Ty::Variant, end)?)?;
     Ok(())
 }
 
@@ -102,28 +89,50 @@ fn truths_and_printed_forms(rt: HostRuntime) -> Result<(), Fail> {
     Ok(())
 }
 
+/// The static function `f` of the class `N`.
+fn callable(alloc: Global) -> Result<Value, Fail> {
+    Ok(Value::Callable(Target {
+        object: None,
+        class: 0,
+        name: text(alloc, "f")?,
+    }))
+}
+
+/// The signal `hit` of the one object.
+fn signal(alloc: Global) -> Result<Value, Fail> {
+    let emitter = Handle {
+        index: 2,
+        serial: 0,
+    };
+    Ok(Value::Signal(emitter, text(alloc, "hit")?))
+}
+
 #[test]
 fn callables_and_signals(rt: HostRuntime) -> Result<(), Fail> {
     let alloc = rt.alloc();
     let things = things(alloc)?;
-    let target = Target {
-        object: None,
-        class: 0,
-        name: text(alloc, "f")?,
-    };
-    let callable = Value::Callable(target);
-    let signal = Value::Signal(
-        Handle {
-            index: 2,
-            serial: 0,
-        },
-        text(alloc, "hit")?,
-    );
+    let (callable, signal) = (callable(alloc)?, signal(alloc)?);
     assert!(rt; prints(alloc, &callable, &things, "<callable f>")?);
     assert!(rt; prints(alloc, &signal, &things, "<signal hit>")?);
     assert_eq!(rt; kind_of(&callable), Kind::Callable);
     assert!(rt; matches!(same(&callable, &callable, &things), Ok(true)));
     assert!(rt; matches!(truth(&signal, &things), Ok(true)));
+    Ok(())
+}
+
+/// Whether the builtin gives this for the one argument.
+fn given(alloc: Global, builtin: Builtin, v: Value, want: Short) -> Result<bool, Fail> {
+    let made = call_builtin(alloc, builtin, &[v], &things(alloc)?);
+    gave(alloc, made, Want::Value(want))
+}
+
+#[test]
+fn builtins_on_callables_and_signals(rt: HostRuntime) -> Result<(), Fail> {
+    let alloc = rt.alloc();
+    assert!(rt; given(alloc, Builtin::Typeof, callable(alloc)?, Int(25))?);
+    assert!(rt; given(alloc, Builtin::Typeof, signal(alloc)?, Int(26))?);
+    assert!(rt; given(alloc, Builtin::Str, callable(alloc)?, Str("<callable f>"))?);
+    assert!(rt; given(alloc, Builtin::Str, signal(alloc)?, Str("<signal hit>"))?);
     Ok(())
 }
 

@@ -5,6 +5,7 @@ use Rattle.gd_model.specs.Store.{array_behind, dict_behind}
 use Rattle.gd_containers.specs.Keys.{key_value}
 use Rattle.gd_ops.specs.Printed.{both, more_forms, all_forms, form_by, pair_form, plain_form, inside}
 use Rattle.gd_ops.proofs.Printed.{both_then, puts_then, puts_stop, puts_moved, puts_as, more_next, more_no_comma, more_no_form, all_at, all_none, array_open, array_too_deep, dict_open, dict_empty, dict_too_deep}
+use Rattle.gd_ops.proofs.Answer.{found}
 use Rattle.gd_ops.proofs.print.+print.Goals as goal
 
 pub put_pair-returns : goal.put_pair-returns
@@ -26,9 +27,10 @@ put_array-returns-in_err-put_items g t c =
     let T = g.K.Look.things c.args.look.now in
     let N = g.K.Look.names c.args.look.now in
     let room : c.args.room ≡ (c.args.room - 1) + 1 = omega arith in
+    let x : Some c.in_ok-array.array.now ≡ array_behind (T c.args.h) = found c.array.result (array_behind (T c.args.h)) c.in_ok-array.array c.array.ensures c.in_ok-array.ensures in
     let A = all_forms (codes ", ") (map (form_by T N (inside T N (c.args.room - 1))) c.items.result.now) in
     let p = err_from_is_err_and c.from_residual-in_err-put_items.result c.from_residual-in_err-put_items.ensures.1 in
-    rw (p.1, p.2) (puts_as _ _ c.args.out.now.items c.put_items.new.out.items (Err c.in_err-put_items.field-0.0) (array_open T N c.args.room (c.args.room - 1) c.in-Some.array.now c.items.result.now (array_behind (T c.args.h)) room c.in-Some.ensures c.items.ensures)
+    rw (p.1, p.2) (puts_as _ _ c.args.out.now.items c.put_items.new.out.items (Err c.in_err-put_items.field-0.0) (array_open T N c.args.room (c.args.room - 1) c.in_ok-array.array.now c.items.result.now (array_behind (T c.args.h)) room x c.items.ensures)
     (puts_then (Some (codes "[")) (both A (Some (codes "]"))) c.args.out.now.items c.put.new.out.items c.put_items.new.out.items (Err c.in_err-put_items.field-0.0) c.in_ok-put.ensures
     (puts_stop A (Some (codes "]")) c.put.new.out.items c.put_items.new.out.items c.put_items.new.out.items _ c.in_err-put_items.ensures)))
 
@@ -37,8 +39,9 @@ put_array-returns g t c =
     let T = g.K.Look.things c.args.look.now in
     let N = g.K.Look.names c.args.look.now in
     let room : c.args.room ≡ (c.args.room - 1) + 1 = omega arith in
+    let x : Some c.in_ok-array.array.now ≡ array_behind (T c.args.h) = found c.array.result (array_behind (T c.args.h)) c.in_ok-array.array c.array.ensures c.in_ok-array.ensures in
     let A = all_forms (codes ", ") (map (form_by T N (inside T N (c.args.room - 1))) c.items.result.now) in
-    puts_as _ _ c.args.out.now.items c.put-2.new.out.items c.put-2.result (array_open T N c.args.room (c.args.room - 1) c.in-Some.array.now c.items.result.now (array_behind (T c.args.h)) room c.in-Some.ensures c.items.ensures)
+    puts_as _ _ c.args.out.now.items c.put-2.new.out.items c.put-2.result (array_open T N c.args.room (c.args.room - 1) c.in_ok-array.array.now c.items.result.now (array_behind (T c.args.h)) room x c.items.ensures)
     (puts_then (Some (codes "[")) (both A (Some (codes "]"))) c.args.out.now.items c.put.new.out.items c.put-2.new.out.items c.put-2.result c.in_ok-put.ensures
     (puts_then A (Some (codes "]")) c.put.new.out.items c.put_items.new.out.items c.put-2.new.out.items c.put-2.result c.in_ok-put_items.ensures c.put-2.ensures))
 
@@ -53,17 +56,19 @@ put_dict-returns-then-size-eq0 g t c =
     let T = g.K.Look.things c.args.look.now in
     let N = g.K.Look.names c.args.look.now in
     let room : c.args.room ≡ (c.args.room - 1) + 1 = omega arith in
-    puts_as _ _ c.args.out.now.items c.put_word-then-size-eq0.new.out.items c.put_word-then-size-eq0.result (dict_empty T N c.args.room (c.args.room - 1) c.in-Some.dict.now (dict_behind (T c.args.h)) room c.in-Some.ensures (sym c.size.ensures.value ∙ c.if-size-eq0.true)) c.put_word-then-size-eq0.ensures
+    let x : Some c.in_ok-dict.dict.now ≡ dict_behind (T c.args.h) = found c.dict.result (dict_behind (T c.args.h)) c.in_ok-dict.dict c.dict.ensures c.in_ok-dict.ensures in
+    puts_as _ _ c.args.out.now.items c.put_word-then-size-eq0.new.out.items c.put_word-then-size-eq0.result (dict_empty T N c.args.room (c.args.room - 1) c.in_ok-dict.dict.now (dict_behind (T c.args.h)) room x (sym c.size.ensures.value ∙ c.if-size-eq0.true)) c.put_word-then-size-eq0.ensures
 
 pub put_dict-returns-in_err-put_pairs : goal.put_dict-returns-in_err-put_pairs
 put_dict-returns-in_err-put_pairs g t c =
     let T = g.K.Look.things c.args.look.now in
     let N = g.K.Look.names c.args.look.now in
     let room : c.args.room ≡ (c.args.room - 1) + 1 = omega arith in
-    let some : ¬ (length c.in-Some.dict.now.pairs ≡ 0) = λ e. c.if-size-eq0.false (c.size.ensures.value ∙ e) in
-    let A = all_forms (codes ", ") (map (pair_form (plain_form T N) (form_by T N (inside T N (c.args.room - 1)))) c.in-Some.dict.now.pairs) in
+    let x : Some c.in_ok-dict.dict.now ≡ dict_behind (T c.args.h) = found c.dict.result (dict_behind (T c.args.h)) c.in_ok-dict.dict c.dict.ensures c.in_ok-dict.ensures in
+    let some : ¬ (length c.in_ok-dict.dict.now.pairs ≡ 0) = λ e. c.if-size-eq0.false (c.size.ensures.value ∙ e) in
+    let A = all_forms (codes ", ") (map (pair_form (plain_form T N) (form_by T N (inside T N (c.args.room - 1)))) c.in_ok-dict.dict.now.pairs) in
     let p = err_from_is_err_and c.from_residual-in_err-put_pairs.result c.from_residual-in_err-put_pairs.ensures.1 in
-    rw (p.1, p.2) (puts_as _ _ c.args.out.now.items c.put_pairs.new.out.items (Err c.in_err-put_pairs.field-0.0) (dict_open T N c.args.room (c.args.room - 1) c.in-Some.dict.now (dict_behind (T c.args.h)) room c.in-Some.ensures some)
+    rw (p.1, p.2) (puts_as _ _ c.args.out.now.items c.put_pairs.new.out.items (Err c.in_err-put_pairs.field-0.0) (dict_open T N c.args.room (c.args.room - 1) c.in_ok-dict.dict.now (dict_behind (T c.args.h)) room x some)
     (puts_then (Some (codes "{ ")) (both A (Some (codes " }"))) c.args.out.now.items c.put_word-2.new.out.items c.put_pairs.new.out.items (Err c.in_err-put_pairs.field-0.0) c.in_ok-put_word.ensures
     (puts_stop A (Some (codes " }")) c.put_word-2.new.out.items c.put_pairs.new.out.items c.put_pairs.new.out.items _ c.in_err-put_pairs.ensures)))
 
@@ -72,9 +77,10 @@ put_dict-returns g t c =
     let T = g.K.Look.things c.args.look.now in
     let N = g.K.Look.names c.args.look.now in
     let room : c.args.room ≡ (c.args.room - 1) + 1 = omega arith in
-    let some : ¬ (length c.in-Some.dict.now.pairs ≡ 0) = λ e. c.if-size-eq0.false (c.size.ensures.value ∙ e) in
-    let A = all_forms (codes ", ") (map (pair_form (plain_form T N) (form_by T N (inside T N (c.args.room - 1)))) c.in-Some.dict.now.pairs) in
-    puts_as _ _ c.args.out.now.items c.put_word-3.new.out.items c.put_word-3.result (dict_open T N c.args.room (c.args.room - 1) c.in-Some.dict.now (dict_behind (T c.args.h)) room c.in-Some.ensures some)
+    let x : Some c.in_ok-dict.dict.now ≡ dict_behind (T c.args.h) = found c.dict.result (dict_behind (T c.args.h)) c.in_ok-dict.dict c.dict.ensures c.in_ok-dict.ensures in
+    let some : ¬ (length c.in_ok-dict.dict.now.pairs ≡ 0) = λ e. c.if-size-eq0.false (c.size.ensures.value ∙ e) in
+    let A = all_forms (codes ", ") (map (pair_form (plain_form T N) (form_by T N (inside T N (c.args.room - 1)))) c.in_ok-dict.dict.now.pairs) in
+    puts_as _ _ c.args.out.now.items c.put_word-3.new.out.items c.put_word-3.result (dict_open T N c.args.room (c.args.room - 1) c.in_ok-dict.dict.now (dict_behind (T c.args.h)) room x some)
     (puts_then (Some (codes "{ ")) (both A (Some (codes " }"))) c.args.out.now.items c.put_word-2.new.out.items c.put_word-3.new.out.items c.put_word-3.result c.in_ok-put_word.ensures
     (puts_then A (Some (codes " }")) c.put_word-2.new.out.items c.put_pairs.new.out.items c.put_word-3.new.out.items c.put_word-3.result c.in_ok-put_pairs.ensures c.put_word-3.ensures))
 

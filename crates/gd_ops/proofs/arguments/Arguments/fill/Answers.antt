@@ -10,6 +10,6 @@ pub returns : goal.returns
 returns c = λ wants h.
     let args = c.args.self.now in
     let pattern = c.args.pattern.now in
-    let made = subst (λ (xs : List Arg). FormatGives pattern (Some xs) c.formatted-made.result) c.as_slice.ensures.value c.formatted-made.ensures in
+    let made = subst (λ (xs : List Arg). FormatGives pattern (Some xs) c.formatted-made.result) c.as_slice.ensures c.formatted-made.ensures in
     subst (λ (r : Result Fresh ThingFault). FormatGives pattern (all_there wants) r) (sym c.within.ensures)
     (standing_gives pattern wants args.list.items args.too_long c.formatted-made.result h made)
