@@ -4,10 +4,13 @@
 usage: bench/front_end.py [PROGRAM]      PROGRAM is by default crates/gd_command/out/gd_command
 
 Prints the speed at each size, and how the time grows from one size to the next. Wanted: at least 20 MiB/s on one
-core, and a time that grows as the size does. Skips where the program is not built.
+core, and a time that grows as the size does. Beside it stands the speed at which this Python parses the same scripts,
+written in Python. Skips where the program is not built.
 """
+import ast
 import os
 import random
+import re
 import subprocess
 import sys
 import tempfile
@@ -63,6 +66,40 @@ def script(random_source, bytes_wanted):
         number += 1
 
 
+# what a line of the scripts is in Python
+IN_PYTHON = [
+    (r"^extends .*$", "import os"),
+    (r"^const ", ""),
+    (r"\bvar (\w+) :=", r"\1 ="),
+    (r"\bvar (\w+):", r"\1:"),
+    (r"^func ", "def "),
+    (r"^(\t\t)(0, 1|_):$", lambda line: f"{line[1]}case {line[2].replace(',', ' |')}:"),
+    (r"\bfalse\b", "False"),
+    (r"\bnull\b", "None"),
+]
+
+
+def in_python(text):
+    """The same script in Python."""
+    for pattern, written in IN_PYTHON:
+        text = re.sub(pattern, written, text, flags=re.MULTILINE)
+    return text
+
+
+def parsed_by_python(folder):
+    """The MiB a second at which Python parses the scripts of this folder, written in Python: the best of a few runs."""
+    names = sorted(os.listdir(folder))
+    texts = [in_python(open(os.path.join(folder, name), encoding="utf-8").read()) for name in names]
+    best = None
+    for _ in range(RUNS):
+        start = time.perf_counter()
+        for text in texts:
+            ast.parse(text)
+        took = time.perf_counter() - start
+        best = took if best is None else min(best, took)
+    return sum(len(text.encode()) for text in texts) / MIB / best
+
+
 def project(folder, size):
     """Writes scripts of this many bytes together, or a little fewer. Answers the bytes written."""
     random_source = random.Random(size)
@@ -95,16 +132,19 @@ def main():
         print(f"skipped: {program} is not built")
         return
     program = os.path.abspath(program)
-    before = None
+    before = python = None
     for size in SIZES:
         with tempfile.TemporaryDirectory() as folder:
             written = project(folder, size)
             took = seconds(program, folder)
+            python = parsed_by_python(folder) if size == SIZES[0] else python
         speed = written / MIB / took
         growth = "" if before is None else f", {took / before[1]:.2f} times the time for {written / before[0]:.2f} times the bytes"
         print(f"{written / MIB:.2f} MiB: {took * 1000:.1f} ms, {speed:.1f} MiB/s{growth}"
               + ("" if speed >= WANTED else f" (below {WANTED:.0f} MiB/s)"))
         before = (written, took)
+    print(f"Python {sys.version.split()[0]} parses the same in Python (ast.parse) at {python:.1f} MiB/s:"
+          f" check, at the last size, is {speed / python:.1f} times as fast")
 
 
 if __name__ == "__main__":
