@@ -5,6 +5,7 @@ pub mod Standing
 pub mod TextAnswers
 pub mod Pairs
 pub mod Operands
+pub mod Untaken
 pub mod KnownTypes
 pub mod Ranges
 pub mod BuiltinTable

@@ -123,6 +123,12 @@ is_unary Complement = true
 is_unary Not = true
 is_unary op = false
 
+-- the operators that ask whether one value is in another
+abbrev pub is_membership : Operator → Bool
+is_membership In = true
+is_membership NotIn = true
+is_membership op = false
+
 -- the operators that give a bool
 abbrev pub is_test : Operator → Bool
 is_test Equal = true

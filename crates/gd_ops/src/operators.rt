@@ -12,7 +12,7 @@ use crate::equality::same;
 use crate::fresh::{Fresh, boolean, refused};
 use crate::ints::{apply_int, apply_ints};
 use crate::kind::kind_of;
-use crate::rows::alike;
+use crate::rows::{alike, is_membership, takes};
 use crate::texts::apply_texts;
 use crate::there::there;
 use gd_containers::{Look, MAX_ITEMS, ThingFault, TypedArray, key_of};
@@ -39,7 +39,9 @@ pub fn apply<K: Look>(
     }
 }
 
-/// An operator on values that are neither two ints nor two Strings.
+/// An operator on values that are neither two ints nor two Strings. The operator's row says of which kinds they may be, but
+/// for `in`, which refuses a value that is no key by a fault of its own.
+#[tactic(auto, using(crate::proofs::Untaken::untaken))]
 fn apply_others<K: Look>(
     alloc: Global,
     op: Operator,
@@ -49,6 +51,9 @@ fn apply_others<K: Look>(
 ) -> Result<Fresh, ThingFault>
     ensures { OthersGive (K.things look.now) (K.names look.now) op a.now b.now result }
 {
+    if !is_membership(op) && !takes(op, kind_of(a), kind_of(b)) {
+        return refused(RunFault::BadOperands);
+    }
     match op {
         Operator::Add => add(alloc, a, b, look),
         Operator::Remainder => rest(alloc, a, b, look),

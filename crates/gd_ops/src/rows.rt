@@ -220,6 +220,13 @@ fn is_key(kind: Kind) -> bool
     )
 }
 
+/// Whether the operator asks if one value is in another.
+pub fn is_membership(op: Operator) -> bool
+    ensures { result ≡ spec.is_membership op }
+{
+    matches!(op, Operator::In | Operator::NotIn)
+}
+
 /// Whether the operator stands before one operand.
 #[tactic(auto, using(crate::proofs::OperatorTable::unary_by_table))]
 pub fn is_unary(op: Operator) -> bool
