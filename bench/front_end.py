@@ -132,17 +132,19 @@ def main():
         print(f"skipped: {program} is not built")
         return
     program = os.path.abspath(program)
-    before = python = None
+    before = None
     for size in SIZES:
         with tempfile.TemporaryDirectory() as folder:
             written = project(folder, size)
             took = seconds(program, folder)
-            python = parsed_by_python(folder) if size == SIZES[0] else python
         speed = written / MIB / took
         growth = "" if before is None else f", {took / before[1]:.2f} times the time for {written / before[0]:.2f} times the bytes"
         print(f"{written / MIB:.2f} MiB: {took * 1000:.1f} ms, {speed:.1f} MiB/s{growth}"
               + ("" if speed >= WANTED else f" (below {WANTED:.0f} MiB/s)"))
         before = (written, took)
+    with tempfile.TemporaryDirectory() as folder:
+        project(folder, SIZES[0])
+        python = parsed_by_python(folder)
     print(f"Python {sys.version.split()[0]} parses the same in Python (ast.parse) at {python:.1f} MiB/s:"
           f" check, at the last size, is {speed / python:.1f} times as fast")
 

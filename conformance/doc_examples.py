@@ -9,9 +9,9 @@ told in words, as <33 tabs>, is passed over. The last line is 'N passed, M faile
 """
 import os
 import re
-import subprocess
 import sys
-import tempfile
+
+from hostile import check
 
 PAGE = os.path.join(os.path.dirname(os.path.dirname(os.path.abspath(__file__))), "docs", "diagnostics.md")
 PRINTED = re.compile(r"main\.gd:\d+:\d+: error [A-Z]\d+: ")
@@ -53,21 +53,13 @@ def written(script):
     return data
 
 
-def check(program, script):
-    """What `check` prints of this script."""
-    with tempfile.TemporaryDirectory() as folder:
-        with open(os.path.join(folder, "main.gd"), "wb") as file:
-            file.write(script)
-        return subprocess.run([program, "check"], cwd=folder, capture_output=True, timeout=60).stdout
-
-
 def main():
     program = os.path.abspath(sys.argv[1])
     with open(PAGE, encoding="utf-8") as file:
         page = file.read()
     passed, failed = 0, 0
     for script, printed in examples(page):
-        found = check(program, written(script))
+        _, found = check(program, [("main.gd", written(script))])
         if found == printed.encode():
             passed += 1
         else:
