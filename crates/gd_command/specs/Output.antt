@@ -8,7 +8,7 @@ use Rattle.gd_model.specs.declared.outcome.Outcome.TheVariants.{Done as RunDone}
 use Rattle.gd_meaning.specs.declared.Statement.{Statement}
 use Rattle.gd_meaning.specs.Source.{IsSource}
 use Rattle.gd_meaning.specs.Run.{Run as Runs}
-use Rattle.gd_model.specs.Rule.{rule_code, rule_text}
+use Rattle.gd_rules.specs.Rule.{rule_code, rule_text}
 use Rattle.gd_command.specs.declared.answer.FileFault.{FileFault}
 use Rattle.gd_command.specs.Words.{Means}
 use Rattle.gd_command.specs.declared.words.Command.{Command}

@@ -1,7 +1,7 @@
 //! The answers that a call decides on before it writes.
 use crate::status::Status;
 use gd_meaning::Statement;
-use gd_model::Diag;
+use gd_rules::Diag;
 use gd_outside::Path;
 use gd_syntax::Seq;
 

@@ -13,7 +13,7 @@ use crate::answer::{Answer, FileFault};
 use crate::project::{MAX_SOURCE, keep_scripts};
 use gd_grammar::{SyntaxFault, parse};
 use gd_lexer::{LexFault, lex};
-use gd_model::Diag;
+use gd_rules::Diag;
 use gd_outside::{Path, Shelf, ShelfFault};
 use gd_syntax::{Seq, Token};
 use no_memory::NoMemory;

@@ -6,11 +6,11 @@ ghost use Rattle.gd_outside.specs.declared.sink.SinkFault.TheVariants.{Failed};
 ghost use Rattle.gd_command.specs.Puts.{Puts};
 ghost use Rattle.gd_command.specs.Answer.{answer_text, printed_of};
 ghost use Rattle.gd_command.specs.Output.{fault_line};
-ghost use Rattle.gd_model.specs.Rule.{rule_code, rule_text};
+ghost use Rattle.gd_rules.specs.Rule.{rule_code, rule_text};
 
 use crate::answer::{Answer, FileFault};
 use gd_meaning::Statement;
-use gd_model::{Diag, Rule};
+use gd_rules::{Diag, Rule};
 use gd_outside::{Path, Sink, SinkFault};
 use itoa::Buffer;
 

@@ -1,5 +1,5 @@
 //! What `parse` answers for tokens that are no script.
-use gd_model::Rule;
+use gd_rules::Rule;
 use gd_syntax::Pos;
 use thiserror::Error;
 

@@ -8,7 +8,7 @@ use crate::class::{Members, extended, file_members};
 use crate::fault::SyntaxFault;
 use gd_cursor::{Cursor, Edge, Stop, count};
 use gd_expression::base;
-use gd_model::Rule;
+use gd_rules::Rule;
 use gd_syntax::{BaseName, ClassDecl, Keyword, Mark, Pos, Script, Text, Token, TokenKind};
 use std::alloc::Global;
 

@@ -1,7 +1,7 @@
 -- A stop is the fault of a rule that is broken there.
 use Rattle.std.proofs.Common.{subst, sym, List}
 use Rattle.gd_syntax.specs.declared.pos.Pos.{Pos}
-use Rattle.gd_model.specs.declared.rule.Rule.{Rule}
+use Rattle.gd_rules.specs.declared.rule.Rule.{Rule}
 use Rattle.gd_lexis.specs.declared.glyph.Glyph.{Glyph}
 use Rattle.gd_lexer.specs.declared.stop.Stop.{Stop}
 use Rattle.gd_lexer.specs.declared.stop.Stop.TheVariants.{Fault, NoMemory}

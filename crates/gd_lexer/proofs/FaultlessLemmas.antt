@@ -4,8 +4,8 @@ use Rattle.std.specs.Prelude.{All, Option, Some, None, if◌then◌else◌}
 use Rattle.std.proofs.lemmas.List.Elements.{All-head, All-tail, All-nil, All-cons, All-append, filter-append}
 use Rattle.gd_syntax.specs.declared.pos.Pos.{Pos}
 use Rattle.gd_syntax.specs.declared.token.Token.{Token}
-use Rattle.gd_model.specs.declared.rule.Rule.{Rule}
-use Rattle.gd_model.specs.declared.rule.Rule.TheVariants as rules
+use Rattle.gd_rules.specs.declared.rule.Rule.{Rule}
+use Rattle.gd_rules.specs.declared.rule.Rule.TheVariants as rules
 use Rattle.gd_lexis.specs.declared.glyph.Glyph.{Glyph}
 use Rattle.gd_lexis.specs.Chars.{IsFile, place_behind}
 use Rattle.gd_lexis.specs.Pieces.{Piece, Blank, IsCut}

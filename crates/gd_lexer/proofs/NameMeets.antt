@@ -19,7 +19,7 @@ use Rattle.gd_lexer.specs.declared.word.Word.TheVariants as words
 use Rattle.gd_lexer.specs.Word.{word_at}
 use Rattle.gd_lexer.specs.Token.{IsToken, IsBrokenAt}
 use Rattle.gd_lexer.proofs.WordMeets.{word_tells, Tells, no_keyword, no_float}
-use Rattle.gd_model.specs.declared.rule.Rule.TheVariants as rules_of
+use Rattle.gd_rules.specs.declared.rule.Rule.TheVariants as rules_of
 use Rattle.gd_lexer.specs.Name.{name_behind, after_name}
 use Rattle.gd_lexer.specs.declared.lexer.Start.TheVariants as starts
 use Rattle.gd_lexer.specs.Start.{opens_string, start_at}

@@ -2,7 +2,7 @@
 use Rattle.std.proofs.Common.{◌≡◌, ℕ, ◌<◌, Bool, true, false, cond, List, [], ◌∷◌, slice_get, drop, refl, ap, sym, ◌∙◌, arith, subst, inl, inr}
 use Rattle.std.proofs.lemmas.Bool.Decides.{nat_tests}
 use Rattle.std.proofs.lemmas.Bool.{lt-ltb, eqb-true, and_parts}
-use Rattle.gd_model.specs.declared.rule.Rule.TheVariants.{Float}
+use Rattle.gd_rules.specs.declared.rule.Rule.TheVariants.{Float}
 use Rattle.gd_lexer.specs.Token.{IsBrokenAt}
 use Rattle.std.specs.Prelude.{nat_lt, Option, Some, None, ◌||◌, ◌&&◌, ◌==◌}
 use Rattle.std.specs.Char.{is_ascii_digit, digit_value}

@@ -5,8 +5,8 @@ use Rattle.std.proofs.lemmas.List.{append-nil, map-append, append_cancel_left, l
 use Rattle.std.specs.Prelude.{Option, Some, None, ◌||◌, ◌&&◌, ◌==◌, ◌⊎◌, nat_eq, replicate}
 use Rattle.std.specs.List.{starts_with}
 use Rattle.gd_syntax.specs.declared.pos.Pos.{Pos}
-use Rattle.gd_model.specs.declared.rule.Rule.{Rule}
-use Rattle.gd_model.specs.declared.rule.Rule.TheVariants.{BadEscape, NotUtf8}
+use Rattle.gd_rules.specs.declared.rule.Rule.{Rule}
+use Rattle.gd_rules.specs.declared.rule.Rule.TheVariants.{BadEscape, NotUtf8}
 use Rattle.gd_lexis.specs.declared.glyph.Glyph.{Glyph}
 use Rattle.gd_lexis.specs.declared.glyph.Glyph.TheVariants.{Char, Bad}
 use Rattle.gd_lexis.specs.Strings as strings

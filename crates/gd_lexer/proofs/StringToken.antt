@@ -12,8 +12,8 @@ use Rattle.unicode_ident.proofs.IdentLemmas.{is_xid_start-ascii, is_xid_continue
 use Rattle.gd_syntax.specs.declared.pos.Pos.{Pos}
 use Rattle.gd_syntax.specs.declared.token.TokenKind.{TokenKind}
 use Rattle.gd_syntax.specs.declared.token.TokenKind.TheVariants as kinds
-use Rattle.gd_model.specs.declared.rule.Rule.{Rule}
-use Rattle.gd_model.specs.declared.rule.Rule.TheVariants as broken
+use Rattle.gd_rules.specs.declared.rule.Rule.{Rule}
+use Rattle.gd_rules.specs.declared.rule.Rule.TheVariants as broken
 use Rattle.gd_lexis.specs.declared.glyph.Glyph.{Glyph}
 use Rattle.gd_lexis.specs.declared.glyph.Glyph.TheVariants.{Char, Bad}
 use Rattle.gd_lexis.specs.Words.{IsName, GoesOn}

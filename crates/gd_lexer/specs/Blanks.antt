@@ -1,6 +1,6 @@
 -- By what a file is indented so far.
 use Rattle.std.specs.Prelude.{◌≡◌, ℕ, false, List, [], ◌∷◌, ◌++◌, filter, flat_map, All, Option, Some, None, if◌then◌else◌}
-use Rattle.gd_model.specs.declared.rule.Rule.TheVariants.{MixedIndentation}
+use Rattle.gd_rules.specs.declared.rule.Rule.TheVariants.{MixedIndentation}
 use Rattle.gd_lexis.specs.Chars.{place_behind}
 use Rattle.gd_lexis.specs.Pieces.{Piece, Blank}
 use Rattle.gd_lexis.specs.Lines.{is_logical, is_indentation, lead, texts}

@@ -4,8 +4,8 @@ use Rattle.gd_syntax.specs.declared.pos.Pos.{Pos}
 use Rattle.gd_syntax.specs.declared.token.TokenKind.{TokenKind}
 use Rattle.gd_syntax.specs.declared.token.TokenKind.TheVariants as kinds
 use Rattle.gd_syntax.specs.declared.token.Mark.{Mark}
-use Rattle.gd_model.specs.declared.rule.Rule.{Rule}
-use Rattle.gd_model.specs.declared.rule.Rule.TheVariants.{BracketsTooDeep, ItemTooLong}
+use Rattle.gd_rules.specs.declared.rule.Rule.{Rule}
+use Rattle.gd_rules.specs.declared.rule.Rule.TheVariants.{BracketsTooDeep, ItemTooLong}
 use Rattle.gd_lexis.specs.Pieces.{Tok}
 use Rattle.gd_lexis.specs.Lines.{is_opening, is_closing}
 use Rattle.gd_lexis.specs.Items.{is_separator, counted, closed, ended, items_behind}

@@ -1,8 +1,8 @@
 -- Which fault stops reading: the first of the file.
 use Rattle.std.specs.Prelude.{◌≡◌, ◌≢◌, ℕ, ◌≤◌, length, false, List, [], ◌∷◌, ◌++◌, map, All, Option, Some, None, IfSome}
 use Rattle.gd_syntax.specs.declared.pos.Pos.{Pos}
-use Rattle.gd_model.specs.declared.rule.Rule.{Rule}
-use Rattle.gd_model.specs.declared.rule.Rule.TheVariants.{NotUtf8, StrayCharacter, UnmatchedDedent, BlocksTooDeep}
+use Rattle.gd_rules.specs.declared.rule.Rule.{Rule}
+use Rattle.gd_rules.specs.declared.rule.Rule.TheVariants.{NotUtf8, StrayCharacter, UnmatchedDedent, BlocksTooDeep}
 use Rattle.gd_lexis.specs.declared.glyph.Glyph.{Glyph}
 use Rattle.gd_lexis.specs.declared.glyph.Glyph.TheVariants.{Char, Bad}
 use Rattle.gd_lexis.specs.Chars.{IsFile, place_behind}

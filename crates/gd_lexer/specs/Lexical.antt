@@ -1,7 +1,7 @@
 -- The lexical rules, and what a lexical fault is.
 use Rattle.std.specs.Prelude.{Bool, true, false}
-use Rattle.gd_model.specs.declared.rule.Rule.{Rule}
-use Rattle.gd_model.specs.declared.rule.Rule.TheVariants.{NotUtf8, MixedIndentation, UnmatchedDedent, UnterminatedString, BadEscape, StrayCharacter, Float, IntegerTooLarge, BadNumber, BracketsTooDeep, BlocksTooDeep, ItemTooLong}
+use Rattle.gd_rules.specs.declared.rule.Rule.{Rule}
+use Rattle.gd_rules.specs.declared.rule.Rule.TheVariants.{NotUtf8, MixedIndentation, UnmatchedDedent, UnterminatedString, BadEscape, StrayCharacter, Float, IntegerTooLarge, BadNumber, BracketsTooDeep, BlocksTooDeep, ItemTooLong}
 
 -- the rule is one of L01 to L12
 abbrev pub is_lexical : Rule → Bool

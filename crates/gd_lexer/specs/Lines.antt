@@ -1,7 +1,7 @@
 -- What stays of lines, and what a blank changes.
 use Rattle.std.specs.Prelude.{◌≡◌, ◌+◌, Bool, true, false, Option, Some, None}
 use Rattle.gd_syntax.specs.declared.pos.Pos.{Pos}
-use Rattle.gd_model.specs.declared.rule.Rule.TheVariants.{MixedIndentation}
+use Rattle.gd_rules.specs.declared.rule.Rule.TheVariants.{MixedIndentation}
 use Rattle.gd_lexer.specs.declared.lines.Blank.{Blank}
 use Rattle.gd_lexer.specs.declared.lines.Blank.TheVariants.{Space, Tab}
 use Rattle.gd_lexer.specs.declared.lines.Lead.{Lead}

@@ -1,7 +1,7 @@
 -- Which fault stops reading.
 use Rattle.std.specs.Prelude.{◌≡◌}
 use Rattle.gd_syntax.specs.declared.pos.Pos.{Pos}
-use Rattle.gd_model.specs.declared.rule.Rule.{Rule}
+use Rattle.gd_rules.specs.declared.rule.Rule.{Rule}
 use Rattle.gd_lexer.specs.declared.stop.Stop.{Stop}
 use Rattle.gd_lexer.specs.declared.stop.Stop.TheVariants.{Fault, NoMemory}
 

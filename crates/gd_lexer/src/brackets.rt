@@ -6,7 +6,7 @@ ghost use Rattle.gd_lexer.specs.Brackets as spec;
 
 use crate::stop::Stop;
 use crate::stopped::stop_at;
-use gd_model::Rule;
+use gd_rules::Rule;
 use gd_syntax::{Mark, Pos, TokenKind};
 use sqlite_items::Items;
 use std::alloc::Global;

@@ -9,7 +9,7 @@ use crate::cursor::Cursor;
 use crate::quoted::Body;
 use crate::stop::fault_at;
 use gd_lexis::Glyph;
-use gd_model::Rule;
+use gd_rules::Rule;
 use gd_syntax::Pos;
 use no_memory::NoMemory;
 

@@ -1,5 +1,5 @@
 //! Why a file has no tokens.
-use gd_model::Rule;
+use gd_rules::Rule;
 use gd_syntax::Pos;
 use no_memory::NoMemory;
 use std::alloc::{AllocError, AllocFailed};

@@ -34,7 +34,7 @@ use crate::stop::{Fault, Stop, fault_at};
 use crate::stopped::stop_at;
 use crate::word::{Word, word_of};
 use gd_lexis::Glyph;
-use gd_model::Rule;
+use gd_rules::Rule;
 use gd_syntax::{Mark, Pos, TokenKind};
 use no_memory::NoMemory;
 use std::alloc::Global;

@@ -3,7 +3,7 @@ ghost use Rattle.std.specs.Prelude.{◌≡◌, ◌<◌, ◌≤◌, ◌+◌, ◌+
 
 use crate::stop::{Fault, Stop, fault_at};
 use crate::stopped::stop_at;
-use gd_model::Rule;
+use gd_rules::Rule;
 use gd_syntax::Pos;
 use sqlite_items::Items;
 use std::alloc::Global;

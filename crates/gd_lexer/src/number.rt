@@ -8,7 +8,7 @@ ghost use Rattle.gd_lexer.specs.Follows.{Follows};
 use crate::cursor::Cursor;
 use crate::name::next_in_name;
 use gd_lexis::Glyph;
-use gd_model::Rule;
+use gd_rules::Rule;
 
 /// In what base a number is written.
 #[derive(Clone, Copy, Debug, PartialEq, Eq)]

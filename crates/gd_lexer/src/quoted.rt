@@ -11,7 +11,7 @@ use crate::cursor::Cursor;
 use crate::escape::escape;
 use crate::stop::{Fault, fault_at};
 use gd_lexis::Glyph;
-use gd_model::Rule;
+use gd_rules::Rule;
 use no_memory::NoMemory;
 use std::alloc::Global;
 

@@ -2,7 +2,7 @@
 ghost use Rattle.std.specs.Prelude.{◌≡◌, ◌≤◌, IsTrue};
 ghost use Rattle.gd_lexer.specs.Lexical.{is_lexical};
 
-use gd_model::Rule;
+use gd_rules::Rule;
 use gd_syntax::Pos;
 use no_memory::NoMemory;
 use std::alloc::{AllocError, AllocFailed};

@@ -4,7 +4,7 @@ ghost use Rattle.gd_lexer.specs.Lexical.{is_lexical};
 ghost use Rattle.gd_lexer.specs.Stops.{StandsAt};
 
 use crate::stop::{Stop, fault_at};
-use gd_model::Rule;
+use gd_rules::Rule;
 use gd_syntax::Pos;
 
 /// Stops at this place by this rule.

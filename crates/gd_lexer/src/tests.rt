@@ -1,6 +1,6 @@
 //! Tests of the public calls.
 use crate::{Comment, LexFault, Lexeme, lex, lexemes};
-use gd_model::Rule;
+use gd_rules::Rule;
 use gd_syntax::{Token, TokenKind};
 use no_memory::NoMemory;
 use std::alloc::Global;

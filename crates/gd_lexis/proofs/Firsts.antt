@@ -2,7 +2,7 @@
 use Rattle.std.proofs.Common.{◌≡◌, ℕ, ◌≤◌, List, subst, arith, inl, inr}
 use Rattle.std.specs.Prelude.{◌⊎◌}
 use Rattle.gd_syntax.specs.declared.pos.Pos.{Pos}
-use Rattle.gd_model.specs.declared.rule.Rule.{Rule}
+use Rattle.gd_rules.specs.declared.rule.Rule.{Rule}
 use Rattle.gd_lexis.specs.Faults.{FirstFault, IsBefore, number}
 
 not_both : (p q : Pos) → IsBefore p q → IsBefore q p → ⊥

@@ -4,8 +4,8 @@ use Rattle.std.specs.Prelude.{◌⊎◌, All}
 use Rattle.std.proofs.lemmas.Bool.{cases_order}
 use Rattle.std.proofs.lemmas.List.{append_cancel_left, length-map}
 use Rattle.std.proofs.lemmas.List.Elements.{All-head, All-tail}
-use Rattle.gd_model.specs.declared.rule.Rule.{Rule}
-use Rattle.gd_model.specs.declared.rule.Rule.TheVariants as rules
+use Rattle.gd_rules.specs.declared.rule.Rule.{Rule}
+use Rattle.gd_rules.specs.declared.rule.Rule.TheVariants as rules
 use Rattle.gd_lexis.specs.declared.glyph.Glyph.{Glyph}
 use Rattle.gd_lexis.specs.declared.glyph.Glyph.TheVariants.{Char, Bad}
 use Rattle.gd_lexis.specs.Strings.{Quote, opening, IsEscape}

@@ -2,8 +2,8 @@
 use Rattle.std.proofs.Common.{◌≡◌, ℕ, ◌≤◌, true, false, List, [], ◌∷◌, ◌++◌, map, fold, refl, ap, sym, ◌∙◌, subst, inl, inr, arith, slice_index}
 use Rattle.std.specs.Prelude.{◌⊎◌}
 use Rattle.std.specs.Int.{IsInRange}
-use Rattle.gd_model.specs.declared.rule.Rule.{Rule}
-use Rattle.gd_model.specs.declared.rule.Rule.TheVariants as rules
+use Rattle.gd_rules.specs.declared.rule.Rule.{Rule}
+use Rattle.gd_rules.specs.declared.rule.Rule.TheVariants as rules
 use Rattle.gd_lexis.specs.declared.glyph.Glyph.{Glyph}
 use Rattle.gd_lexis.specs.declared.glyph.Glyph.TheVariants.{Char, Bad}
 use Rattle.gd_lexis.specs.Strings.{Quote, IsQuote, opening}

@@ -4,7 +4,7 @@ use Rattle.std.specs.List.{prefix_len}
 use Rattle.std.proofs.lemmas.Bool.{or_parts, or_right, ne_eqb, leb-true, le-leb}
 use Rattle.std.proofs.lemmas.List.Sums.{fold-append}
 use Rattle.gd_syntax.specs.declared.token.TokenKind.{TokenKind}
-use Rattle.gd_model.specs.declared.rule.Rule.TheVariants as rules
+use Rattle.gd_rules.specs.declared.rule.Rule.TheVariants as rules
 use Rattle.gd_lexis.specs.declared.glyph.Glyph.{Glyph}
 use Rattle.gd_lexis.specs.Pieces.{Piece, Tok}
 use Rattle.gd_lexis.specs.Lines.{parted, lines_of, is_token, is_logical, lead, is_indentation, depth, kept, innermost, blocks_behind, open_blocks}

@@ -19,7 +19,7 @@ use Rattle.gd_lexis.specs.Words.{IsName, GoesOn, IsFloatName, keyword_text, mark
 use Rattle.gd_lexis.specs.Numbers.{IsDigit, WritesNumber, WritesDecimal}
 use Rattle.gd_lexis.specs.Pieces.{Piece, Blank, LineFeed, Join, Comment, Tok, Writes, BeginsWith, BeginsBy, IsClear, Stands}
 use Rattle.gd_lexis.specs.Faults.{IsNumber, IsStray, Breaks}
-use Rattle.gd_model.specs.declared.rule.Rule.TheVariants as rules
+use Rattle.gd_rules.specs.declared.rule.Rule.TheVariants as rules
 use Rattle.gd_lexis.proofs.Lists.{not_empty}
 use Rattle.gd_lexis.proofs.Tokens.{BeginsName, BeginsString, keyword_letters, token_begins, two_letters}
 use Rattle.gd_lexis.proofs.Cuts.{IsGap, char_parts, no_gap, glyph_not_empty, comment_gap}

@@ -3,7 +3,7 @@ use Rattle.std.specs.Prelude.{ℕ, [], ◌∷◌, codes}
 use Rattle.gd_syntax.specs.declared.pos.Pos.{Pos}
 use Rattle.gd_syntax.specs.declared.token.TokenKind.TheVariants as kinds
 use Rattle.gd_syntax.specs.declared.token.Mark.TheVariants.{LeftParen, RightParen, ShiftLeft}
-use Rattle.gd_model.specs.declared.rule.Rule.TheVariants.{Float, NotUtf8}
+use Rattle.gd_rules.specs.declared.rule.Rule.TheVariants.{Float, NotUtf8}
 use Rattle.gd_lexis.specs.Lines.{token}
 use Rattle.gd_lexis.specs.Lexes.{Lexes}
 use Rattle.gd_lexis.specs.Faults.{FirstFault}

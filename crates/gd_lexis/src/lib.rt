@@ -8,7 +8,7 @@ ghost use Rattle.gd_syntax.specs.declared.token.Mark.{Mark};
 ghost use Rattle.gd_lexis.specs.declared.glyph.Glyph.{Glyph};
 ghost use Rattle.gd_lexis.specs.Chars.{Reads, place_behind};
 ghost use Rattle.gd_syntax.specs.declared.pos.Pos.{Pos};
-ghost use Rattle.gd_model.specs.declared.rule.Rule.{Rule};
+ghost use Rattle.gd_rules.specs.declared.rule.Rule.{Rule};
 ghost use Rattle.gd_lexis.specs.Words.{keyword_text, mark_text};
 ghost use Rattle.gd_lexis.specs.Numbers.{WritesNumber};
 ghost use Rattle.gd_lexis.specs.Strings.{WritesString};

@@ -1,5 +1,4 @@
 pub mod Fault
-pub mod Rule
 pub mod Key
 pub mod Thing
 pub mod KeyHash

@@ -1,19 +1,16 @@
-//! Types, values, rules and faults: the words that the layers share.
+//! Types, values and faults: the words that the layers share.
 #![tactic(auto)]
 
-mod diag;
 mod event;
 mod fault;
 mod outcome;
-mod rule;
 mod ty;
 mod value;
 
-pub use diag::{Diag, Mark};
 pub use event::Event;
 pub use fault::RunFault;
+pub use gd_rules::{Diag, Mark, Rule};
 pub use outcome::Outcome;
-pub use rule::Rule;
 use std::alloc::AllocError;
 pub use ty::{Fixed, FixedThing, Ty};
 pub use value::{Key, Target, Value};

@@ -1,4 +1,4 @@
-use Rattle.gd_model.specs.declared.rule.Rule.TheVariants.{Float}
+use Rattle.gd_rules.specs.declared.rule.Rule.TheVariants.{Float}
 use Rattle.gd_lexer.proofs.StartsLemmas.{float_read}
 use Rattle.gd_lexer.proofs.FaultMeets.{by_stop}
 use Rattle.gd_lexer.proofs.lexer.Lexer.float.Goals as goal

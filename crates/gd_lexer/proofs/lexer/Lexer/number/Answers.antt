@@ -6,7 +6,7 @@ use mir.Syntax.{w64}
 use Rattle.std.proofs.lemmas.Int.{to_z-of_z}
 use Rattle.gd_syntax.specs.declared.token.TokenKind.TheVariants as kinds
 use Rattle.gd_lexer.specs.Token.{IsToken}
-use Rattle.gd_model.specs.declared.rule.Rule.{Rule}
+use Rattle.gd_rules.specs.declared.rule.Rule.{Rule}
 use Rattle.gd_lexis.specs.declared.glyph.Glyph.{Glyph}
 use Rattle.gd_lexer.proofs.NumberMeets.{number_read, MeetsNumber}
 use Rattle.gd_lexer.proofs.FaultMeets.{by_stop}

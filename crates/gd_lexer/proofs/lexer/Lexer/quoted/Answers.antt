@@ -1,6 +1,6 @@
 use Rattle.std.proofs.Common.{◌∙◌, ap, refl, subst}
 use Rattle.std.proofs.lemmas.Result.{err_from_is_err_and}
-use Rattle.gd_model.specs.declared.rule.Rule.TheVariants.{UnterminatedString}
+use Rattle.gd_rules.specs.declared.rule.Rule.TheVariants.{UnterminatedString}
 use Rattle.gd_lexer.specs.Escape.{reading_of, seen_fault, moved}
 use Rattle.gd_lexer.specs.Quoted.{Steps, quote_of, opened}
 use Rattle.gd_lexer.proofs.FaultMeets.{by_stop}

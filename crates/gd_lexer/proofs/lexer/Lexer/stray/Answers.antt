@@ -1,6 +1,6 @@
 use Rattle.std.proofs.lemmas.Result.{err_from_is_err_and}
 use Rattle.std.proofs.Common.{◌∙◌, sym, subst, refl}
-use Rattle.gd_model.specs.declared.rule.Rule.{Rule}
+use Rattle.gd_rules.specs.declared.rule.Rule.{Rule}
 use Rattle.gd_lexer.specs.FirstFaults.{Strays}
 use Rattle.gd_lexer.proofs.FirstLemmas.{stray_stops}
 use Rattle.gd_lexer.proofs.TrailLemmas.{stray_trail}

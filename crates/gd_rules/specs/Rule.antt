@@ -1,7 +1,7 @@
 -- The code and the text of each rule.
 use Rattle.std.specs.Prelude.{ℕ, List, codes}
-use Rattle.gd_model.specs.declared.rule.Rule.{Rule}
-use Rattle.gd_model.specs.declared.rule.Rule.TheVariants.{PathNotFound, ClassNameTaken, DuplicateMember, HidesAnInheritedMember, UnknownBase, ExtendsCycle, UnknownType, NestedTypedArray, UnknownName, LocalDeclaredTwice, CyclicInference, CannotInfer, NotAssignable, BadArgument, WrongNumberOfArguments, BadReturn, MissingReturn, BadOperands, NoMember, NoMethod, NotCallable, NotAssignableTarget, NotConstant, StaticCodeUsesInstance, InstanceMemberThroughClass, BadOverride, BadCast, TestCannotHold, NotAValue, BreakOutsideALoop, ContinueOutsideALoop, BindingAmongAlternatives, PatternKeyNotConstant, RestNotLast, DuplicateKey, EnumValueNotAConstantInt, BadAccessor, NoBaseMethod, BadConstructor, RequiredAfterOptional, NotIterable, TypeIsNoValue, ConstantFault, AnnotationLeftOut, BadKeyType, NotUtf8, MixedIndentation, UnmatchedDedent, UnterminatedString, BadEscape, StrayCharacter, Float, IntegerTooLarge, BadNumber, BracketsTooDeep, BlocksTooDeep, ItemTooLong, Syntax, FormLeftOut, UnsafePropertyAccess, UnsafeMethodAccess, UnsafeCast, UnsafeCallArgument, IntegerDivision}
+use Rattle.gd_rules.specs.declared.rule.Rule.{Rule}
+use Rattle.gd_rules.specs.declared.rule.Rule.TheVariants.{PathNotFound, ClassNameTaken, DuplicateMember, HidesAnInheritedMember, UnknownBase, ExtendsCycle, UnknownType, NestedTypedArray, UnknownName, LocalDeclaredTwice, CyclicInference, CannotInfer, NotAssignable, BadArgument, WrongNumberOfArguments, BadReturn, MissingReturn, BadOperands, NoMember, NoMethod, NotCallable, NotAssignableTarget, NotConstant, StaticCodeUsesInstance, InstanceMemberThroughClass, BadOverride, BadCast, TestCannotHold, NotAValue, BreakOutsideALoop, ContinueOutsideALoop, BindingAmongAlternatives, PatternKeyNotConstant, RestNotLast, DuplicateKey, EnumValueNotAConstantInt, BadAccessor, NoBaseMethod, BadConstructor, RequiredAfterOptional, NotIterable, TypeIsNoValue, ConstantFault, AnnotationLeftOut, BadKeyType, NotUtf8, MixedIndentation, UnmatchedDedent, UnterminatedString, BadEscape, StrayCharacter, Float, IntegerTooLarge, BadNumber, BracketsTooDeep, BlocksTooDeep, ItemTooLong, Syntax, FormLeftOut, UnsafePropertyAccess, UnsafeMethodAccess, UnsafeCast, UnsafeCallArgument, IntegerDivision}
 
 abbrev pub rule_code : Rule → List ℕ
 rule_code PathNotFound = codes "A01"

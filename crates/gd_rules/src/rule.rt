@@ -135,7 +135,7 @@ pub enum Rule {
 
 impl Rule {
     ghost use Rattle.std.specs.Prelude.{◌≡◌};
-    ghost use Rattle.gd_model.specs.Rule.{rule_code, rule_text};
+    ghost use Rattle.gd_rules.specs.Rule.{rule_code, rule_text};
 
     /// The code that diagnostics and errors print.
     pub fn code(self) -> &'static str
