@@ -1,20 +1,21 @@
 #!/usr/bin/env python3
 """Times `check` of the built program on projects of 0.5, 1, 2 and 4 MiB of ordinary scripts.
 
-usage: bench/front_end.py [PROGRAM]      PROGRAM is by default crates/gd_command/out/gd_command
+usage: bench/front_end.py [GD]      GD is the program, by default crates/gd_command/out/gd_command
 
 Prints the speed at each size, and how the time grows from one size to the next. Wanted: at least 20 MiB/s on one
 core, and a time that grows as the size does. Beside it stands the speed at which this Python parses the same scripts,
-written in Python. Skips where the program is not built.
+written in Python.
 """
 import ast
-import os
+import pathlib
 import random
 import re
-import subprocess
 import sys
-import tempfile
 import time
+
+sys.path.insert(0, str(pathlib.Path(__file__).resolve().parent.parent / "tools"))
+from program import BUILT, Answer, named, project, run
 
 MIB = 1024 * 1024
 SIZES = [MIB // 2, MIB, 2 * MIB, 4 * MIB]
@@ -66,7 +67,7 @@ def script(random_source, bytes_wanted):
         number += 1
 
 
-# what a line of the scripts is in Python
+# What a line of the scripts is in Python.
 IN_PYTHON = [
     (r"^extends .*$", "import os"),
     (r"^const ", ""),
@@ -86,65 +87,55 @@ def in_python(text):
     return text
 
 
-def parsed_by_python(folder):
-    """The MiB a second at which Python parses the scripts of this folder, written in Python: the best of a few runs."""
-    names = sorted(os.listdir(folder))
-    texts = [in_python(open(os.path.join(folder, name), encoding="utf-8").read()) for name in names]
-    best = None
+def least_time(call):
+    """The least time of a few calls, in seconds."""
+    times = []
     for _ in range(RUNS):
         start = time.perf_counter()
-        for text in texts:
-            ast.parse(text)
-        took = time.perf_counter() - start
-        best = took if best is None else min(best, took)
-    return sum(len(text.encode()) for text in texts) / MIB / best
+        call()
+        times.append(time.perf_counter() - start)
+    return min(times)
 
 
-def project(folder, size):
-    """Writes scripts of this many bytes together, or a little fewer. Answers the bytes written."""
+def size_of(files):
+    """The MiB of these files together."""
+    return sum(map(len, files.values())) / MIB
+
+
+def parsed_by_python(files):
+    """The MiB a second at which Python parses these scripts, written in Python."""
+    texts = [in_python(data.decode()) for data in files.values()]
+    took = least_time(lambda: [ast.parse(text) for text in texts])
+    return sum(len(text.encode()) for text in texts) / MIB / took
+
+
+def scripts(size):
+    """Scripts of this many bytes together, or a little fewer, by path."""
     random_source = random.Random(size)
-    written = 0
-    for number in range(size // FILE):
-        text = script(random_source, FILE).encode()
-        written += len(text)
-        with open(os.path.join(folder, f"script_{number:02}.gd"), "wb") as file:
-            file.write(text)
-    return written
+    return {f"script_{number:02}.gd": script(random_source, FILE).encode() for number in range(size // FILE)}
 
 
-def seconds(program, folder):
-    """The least time of a few runs."""
-    best = None
-    for _ in range(RUNS):
-        start = time.perf_counter()
-        run = subprocess.run([program, "check"], cwd=folder, capture_output=True)
-        took = time.perf_counter() - start
-        if run.returncode != 0 or run.stdout:
-            sys.exit(f"check answered {run.returncode}: {run.stdout[:400]!r}")
-        best = took if best is None else min(best, took)
-    return best
+def check(program, folder):
+    """Checks a project without faults."""
+    found = run(program, ["check"], folder)
+    if found != Answer(0, b""):
+        sys.exit(f"check answered {found}")
 
 
 def main():
-    root = os.path.dirname(os.path.dirname(os.path.abspath(__file__)))
-    program = sys.argv[1] if len(sys.argv) > 1 else os.path.join(root, "crates", "gd_command", "out", "gd_command")
-    if not os.path.exists(program):
-        print(f"skipped: {program} is not built")
-        return
-    program = os.path.abspath(program)
+    program = named(sys.argv[1] if len(sys.argv) > 1 else BUILT)
     before = None
     for size in SIZES:
-        with tempfile.TemporaryDirectory() as folder:
-            written = project(folder, size)
-            took = seconds(program, folder)
-        speed = written / MIB / took
-        growth = "" if before is None else f", {took / before[1]:.2f} times the time for {written / before[0]:.2f} times the bytes"
-        print(f"{written / MIB:.2f} MiB: {took * 1000:.1f} ms, {speed:.1f} MiB/s{growth}"
-              + ("" if speed >= WANTED else f" (below {WANTED:.0f} MiB/s)"))
-        before = (written, took)
-    with tempfile.TemporaryDirectory() as folder:
-        project(folder, SIZES[0])
-        python = parsed_by_python(folder)
+        files = scripts(size)
+        with project(files) as folder:
+            took = least_time(lambda: check(program, folder))
+        much = size_of(files)
+        speed = much / took
+        growth = f", {took / before[1]:.2f} times the time for {much / before[0]:.2f} times the bytes" if before else ""
+        below = "" if speed >= WANTED else f" (below {WANTED:.0f} MiB/s)"
+        print(f"{much:.2f} MiB: {took * 1000:.1f} ms, {speed:.1f} MiB/s{growth}{below}")
+        before = much, took
+    python = parsed_by_python(scripts(SIZES[0]))
     print(f"Python {sys.version.split()[0]} parses the same in Python (ast.parse) at {python:.1f} MiB/s:"
           f" check, at the last size, is {speed / python:.1f} times as fast")
 

@@ -1,75 +1,145 @@
 #!/usr/bin/env python3
-"""Runs the examples of docs/diagnostics.md, each as a project with the one script main.gd.
+"""Runs the examples of docs/, each as a project with the one script main.gd.
 
 usage: doc_examples.py GD      GD is the program, e.g. crates/gd_command/out/gd_command
 
-An example is a block of indented lines, a script with the lines below it that `check` prints, or a row of a table with a
-script and such a line. In a script <tab>, <space> and <FF> stand for these characters and that byte. A script that is
-told in words, as <33 tabs>, is passed over. The last line is 'N passed, M failed'.
+An example is
+- a block between ```gdscript and ```. `check` finds no fault in it, or the one that the next line with text tells, as
+  in 'gives `main.gd:2:10: error S02: form left out`'
+  (the other blocks of this kind hold a grammar or the steps of a call, and are no scripts);
+- a block of indented lines, a script with the lines below it that `check` prints;
+- a row of a table that begins with a script and such a line.
+In the last two <tab>, <space> and <FF> stand for these characters and that byte, <3 tabs> for three tabs, <3 times: x>
+for xxx, and <3 lines, each a tab deeper: x> for three lines, the first of them behind one tab. Each script that an
+example names by res:// lies beside it, empty. The last line is 'N passed, M failed'.
 """
-import os
+import pathlib
 import re
 import sys
+from typing import List, NamedTuple
 
-from hostile import check
+sys.path.insert(0, str(pathlib.Path(__file__).resolve().parent.parent / "tools"))
+from program import ROOT, Answer, Tally, answer, named
 
-PAGE = os.path.join(os.path.dirname(os.path.dirname(os.path.abspath(__file__))), "docs", "diagnostics.md")
+FENCE = "```"
+SCRIPT_FENCE = "```gdscript"
+OTHER_FENCES = ("```", "```text")
 PRINTED = re.compile(r"main\.gd:\d+:\d+: error [A-Z]\d+: ")
-ROW = re.compile(r"\| `([^`]+)` \| `(main\.gd:[^`]+)` \|")
+GIVES = re.compile(r"gives `(main\.gd:[^`]+)`")
+ROW = re.compile(r"\| `([^`]+)` \| `(main\.gd:[^`]+)` \|.*")
+NEIGHBOUR = re.compile(rb'"res://([^"]+\.gd)"')
+LINES = re.compile(r"<(\d+) lines, each a tab deeper: (.*)>")
+TOLD = [
+    (re.compile(r"<(\d+) times: ([^<>]*)>"), lambda told: int(told[1]) * told[2]),
+    (re.compile(r"<(\d+) tabs>"), lambda told: int(told[1]) * "\t"),
+]
 BYTES = {b"<tab>": b"\t", b"<space>": b" ", b"<FF>": b"\xff"}
-TOLD = re.compile(r"<\d+ \w+>|\(and so on")
 
 
-def blocks(lines):
-    """The indented blocks of a page, without their indent."""
-    found = [[]]
+class Example(NamedTuple):
+    """A script, and the lines that `check` prints."""
+
+    where: str
+    script: bytes
+    printed: str
+
+    def wanted(self):
+        return Answer(1 if self.printed else 0, self.printed.encode())
+
+    def files(self):
+        neighbours = {name.decode(): b"" for name in NEIGHBOUR.findall(self.script)}
+        return {**neighbours, "main.gd": self.script}
+
+
+def written(lines):
+    """The bytes of a script that is told by these lines."""
+    told = []
     for line in lines:
-        if line.startswith("    "):
-            found[-1].append(line[4:])
-        elif found[-1]:
-            found.append([])
-    return found
-
-
-def examples(page):
-    """The script and the printed lines of each example."""
-    lines = page.splitlines()
-    for block in blocks(lines):
-        printed = [line for line in block if PRINTED.match(line)]
-        script = [line for line in block if not PRINTED.match(line)]
-        if printed and not any(TOLD.search(line) for line in script):
-            yield "\n".join(script) + "\n", "\n".join(printed) + "\n"
-    for line in lines:
-        row = ROW.fullmatch(line)
-        if row:
-            yield row[1] + "\n", row[2] + "\n"
-
-
-def written(script):
-    """The bytes of a script."""
-    data = script.encode()
+        deeper = LINES.fullmatch(line)
+        told += [f"{depth * chr(9)}{deeper[2]}" for depth in range(1, int(deeper[1]) + 1)] if deeper else [line]
+    text = "".join(f"{line}\n" for line in told)
+    for form, stands_for in TOLD:
+        text = form.sub(stands_for, text)
+    data = text.encode()
     for name, byte in BYTES.items():
         data = data.replace(name, byte)
     return data
 
 
-def main():
-    program = os.path.abspath(sys.argv[1])
-    with open(PAGE, encoding="utf-8") as file:
-        page = file.read()
-    passed, failed = 0, 0
-    for script, printed in examples(page):
-        _, found = check(program, [("main.gd", written(script))])
-        if found == printed.encode():
-            passed += 1
+class Fence(NamedTuple):
+    """A block between fences."""
+
+    number: int
+    head: str
+    body: List[str]
+
+
+def split(page, lines):
+    """The blocks between fences, each with the lines below it, and the numbered lines outside."""
+    fences, outside, inside = [], [], None
+    for number, line in enumerate(lines, 1):
+        if inside is None and line.startswith(FENCE):
+            inside = Fence(number, line, [])
+        elif inside is None:
+            outside.append((number, line))
+        elif line == FENCE:
+            fences.append((inside, lines[number:]))
+            inside = None
         else:
-            failed += 1
-            print(f"FAILED {script!r}: {found!r}, and the page says {printed!r}")
-    if passed == 0:
-        failed += 1
-        print(f"FAILED: no example in {PAGE}")
-    print(f"{passed} passed, {failed} failed")
-    sys.exit(1 if failed else 0)
+            inside.body.append(line)
+    if inside is not None:
+        sys.exit(f"{page}:{inside.number}: a fence that does not end")
+    return fences, outside
+
+
+def fenced(page, fences):
+    """The examples that are blocks between fences."""
+    for fence, below in fences:
+        if fence.head == SCRIPT_FENCE:
+            gives = GIVES.match(next(filter(None, below), ""))
+            script = "".join(f"{line}\n" for line in fence.body)
+            yield Example(f"{page}:{fence.number}", script.encode(), f"{gives[1]}\n" if gives else "")
+        elif fence.head not in OTHER_FENCES:
+            sys.exit(f"{page}:{fence.number}: a fence of no known kind: {fence.head}")
+
+
+def indented(page, lines):
+    """The examples that are blocks of indented lines."""
+    blocks = [[]]
+    for number, line in lines:
+        if line.startswith("    "):
+            blocks[-1].append((number, line[4:]))
+        elif blocks[-1]:
+            blocks.append([])
+    for block in blocks:
+        printed = [line for _, line in block if PRINTED.match(line)]
+        if printed:
+            script = [line for _, line in block if not PRINTED.match(line)]
+            yield Example(f"{page}:{block[0][0]}", written(script), "".join(f"{line}\n" for line in printed))
+
+
+def rows(page, lines):
+    """The examples that are rows of a table."""
+    for number, line in lines:
+        row = ROW.fullmatch(line)
+        if row:
+            yield Example(f"{page}:{number}", written([row[1]]), f"{row[2]}\n")
+
+
+def examples_of(page):
+    """The examples of a page of docs/."""
+    name = str(page.relative_to(ROOT))
+    fences, outside = split(name, page.read_text(encoding="utf-8").split("\n"))
+    return [*fenced(name, fences), *indented(name, outside), *rows(name, outside)]
+
+
+def main():
+    program, tally = named(sys.argv[1]), Tally()
+    for page in sorted((ROOT / "docs").glob("*.md")):
+        for example in examples_of(page):
+            found = answer(program, ["check"], example.files())
+            tally.expect(found == example.wanted(), f"{example.where}: {found}, and the page says {example.printed!r}")
+    tally.end()
 
 
 if __name__ == "__main__":

@@ -3,74 +3,139 @@
 
 usage: hostile.py GD      GD is the program, e.g. crates/gd_command/out/gd_command
 
-- Each prefix of a script, as a project by itself, is checked with status 0 or 1; with status 1 one line is printed.
+- Each prefix of the script below, as a project by itself. What is known of its answer is wanted: it is clean where the
+  tokens of its last line are whole and open nothing, and faulty where it ends inside a string, inside brackets, or
+  behind a mark that ends no script. Any other prefix is clean or has one diagnostic. No fault stands before the last
+  token of a prefix.
 - A script of 1,048,577 bytes is too large, and one of 1,048,576 bytes is read.
 - 1,025 scripts are too many.
 The last line is 'N passed, M failed'.
 """
-import os
+import pathlib
 import re
-import subprocess
 import sys
-import tempfile
+from typing import NamedTuple, Optional
+
+sys.path.insert(0, str(pathlib.Path(__file__).resolve().parent.parent / "tools"))
+from program import Answer, Tally, answer, named
 
 MIB = 1024 * 1024
-DIAGNOSTIC = re.compile(rb"main\.gd:[0-9]+:[0-9]+: error [A-Z][0-9]+: [^\n]+\n")
-ROOT = os.path.dirname(os.path.abspath(__file__))
+DIAGNOSTIC = re.compile(rb"main\.gd:([0-9]+):([0-9]+): error [A-Z][0-9]+: [^\n]+\n")
+CLEAN = Answer(0, b"")
+
+# A script without a fault ends behind each of its lines that opens no block and no bracket.
+SCRIPT = """\
+class_name Store
+signal changed(title: String, count: int)
+const MAX := 99
+enum Kind { TOOL, FOOD = 5, GEM }
+var title: String = "rope"
+var counts := {"rope": 3, 'bread': MAX}
+var kinds: Array[int] = [1, 0x1F,
+	Kind.GEM]
+var level := 1:
+	set(value):
+		level = clamp(value, 0, MAX)
+static func tell(n: int) -> void: print(n * 2)
+func half(n: int): return n / 2
+func add(what: String, n := 1):
+	if counts.has(what) and n > 0:
+		counts[what] += n # more of it
+	else:
+		counts[what] = n
+	changed.emit(what, n)
+func test():
+	for n in range(3):
+		add("item (%d]" % n, n)
+	match counts.size():
+		0: print("empty")
+		2, 3: print('few "of" them')
+		_: print("many")
+	print(half(MAX), " ", counts, kinds, level)
+"""
+# No script ends in one of these.
+UNENDED = tuple(":=,.+-*/%<>([{&|^@$")
+# A token or a part of one, or what stands between tokens. (No string of the script has an escape.)
+PIECE = re.compile(r"""#[^\n]*|"[^"]*"?|'[^']*'?|\w+|\s|.""", re.S)
+# What may follow the last token of a line.
+LINE_END = re.compile(r"[ \t]*(#[^\n]*)?\n")
 
 
-def check(program, files):
-    """The status and the output of `check` over these files."""
-    with tempfile.TemporaryDirectory() as folder:
-        for name, data in files:
-            with open(os.path.join(folder, name), "wb") as file:
-                file.write(data)
-        run = subprocess.run([program, "check"], cwd=folder, capture_output=True, timeout=60)
-        return run.returncode, run.stdout
+class Known(NamedTuple):
+    """What is known of the answer to a prefix."""
+
+    # the status, or none where either may come
+    status: Optional[int]
+    # the line and the column before which no fault stands
+    least: tuple
+    # the whole answer, where it is known
+    answer: Optional[Answer] = None
 
 
-def script_of(case, name):
-    """The lines of the script with this name in a case file."""
-    lines, inside = [], False
-    for line in open(case, encoding="utf-8"):
-        if line.startswith("== "):
-            inside = line == f"== file {name}\n"
-        elif inside:
-            lines.append(line)
-    return "".join(lines).encode()
+def place(text, offset):
+    """The line and the column of a character."""
+    return text.count("\n", 0, offset) + 1, offset - (text.rfind("\n", 0, offset) + 1) + 1
 
 
-def is_placed(status, output):
-    """Whether the answer is a clean check, or one placed diagnostic."""
-    return (status, output) == (0, b"") or (status == 1 and DIAGNOSTIC.fullmatch(output) is not None)
+def known(length):
+    """What is known of the answer to the prefix of the script with this length."""
+    prefix = SCRIPT[:length]
+    tokens = [it for it in PIECE.finditer(prefix) if not it[0].isspace() and not it[0].startswith("#")]
+    if not tokens:
+        return Known(0, (1, 1), CLEAN)
+    last = tokens[-1]
+    line, column = least = place(prefix, last.start())
+    quote = last[0][0]
+    if quote in "\"'" and (len(last[0]) == 1 or last[0][-1] != quote):
+        found = f"main.gd:{line}:{column}: error L04: unterminated string\n"
+        return Known(1, least, Answer(1, found.encode()))
+    open_brackets = sum((it[0] in "([{") - (it[0] in ")]}") for it in tokens)
+    if open_brackets or last[0].endswith(UNENDED):
+        return Known(1, least)
+    if LINE_END.match(SCRIPT, last.end()):
+        return Known(0, least, CLEAN)
+    return Known(None, least)
+
+
+def fits(found, wanted):
+    """Whether an answer is one that is known to be right, or may be."""
+    if wanted.answer is not None:
+        return found == wanted.answer
+    if wanted.status is None and found == CLEAN:
+        return True
+    diagnostic = DIAGNOSTIC.fullmatch(found.output)
+    is_placed = diagnostic is not None and (int(diagnostic[1]), int(diagnostic[2])) >= wanted.least
+    return is_placed and found.status == 1 and not found.complaint
+
+
+def try_prefixes(program, tally):
+    """Checks each prefix of the script, and says of how many the status is known."""
+    counts = {0: 0, 1: 0, None: 0}
+    for length in range(len(SCRIPT) + 1):
+        wanted = known(length)
+        counts[wanted.status] += 1
+        found = answer(program, ["check"], {"main.gd": SCRIPT[:length].encode()})
+        tally.expect(fits(found, wanted), f"the first {length} characters: {found}, where known is {wanted}")
+    print(f"prefixes: {counts[0]} known as clean, {counts[1]} known as faulty, {counts[None]} either")
+
+
+SIZES = [
+    ("a script of the limit", {"big.gd": b"#" * MIB}, CLEAN),
+    ("a script above the limit", {"big.gd": b"#" * (MIB + 1)}, Answer(8, b"too large: file big.gd\n")),
+    ("a project of the limit", {f"{n}.gd": b"#" * MIB for n in range(4)}, CLEAN),
+    ("a project above the limit", {f"{n}.gd": b"#" * MIB for n in range(5)}, Answer(8, b"too large: project\n")),
+    ("1,024 scripts", {f"{n}.gd": b"" for n in range(1024)}, CLEAN),
+    ("too many scripts", {f"{n}.gd": b"" for n in range(1025)}, Answer(8, b"too large: files\n")),
+]
 
 
 def main():
-    program = os.path.abspath(sys.argv[1])
-    passed, failed = 0, []
-    script = script_of(os.path.join(ROOT, "check", "a-shop.case"), "store.gd")
-    for length in range(len(script) + 1):
-        status, output = check(program, [("main.gd", script[:length])])
-        if is_placed(status, output):
-            passed += 1
-        else:
-            failed.append(f"the first {length} bytes of store.gd: status {status}, {output!r}")
-    sizes = [
-        ("a script of the limit", [("big.gd", b"#" * MIB)], (0, b"")),
-        ("a script above the limit", [("big.gd", b"#" * (MIB + 1))], (8, b"too large: file big.gd\n")),
-        ("a project above the limit", [(f"{n}.gd", b"#" * MIB) for n in range(5)], (8, b"too large: project\n")),
-        ("too many scripts", [(f"{n}.gd", b"") for n in range(1025)], (8, b"too large: files\n")),
-    ]
-    for what, files, wanted in sizes:
-        answer = check(program, files)
-        if answer == wanted:
-            passed += 1
-        else:
-            failed.append(f"{what}: {answer[0]}, {answer[1][:200]!r}")
-    for line in failed[:10]:
-        print(line)
-    print(f"{passed} passed, {len(failed)} failed")
-    sys.exit(1 if failed else 0)
+    program, tally = named(sys.argv[1]), Tally()
+    try_prefixes(program, tally)
+    for what, files, wanted in SIZES:
+        found = answer(program, ["check"], files)
+        tally.expect(found == wanted, f"{what}: {found}, where wanted is {wanted}")
+    tally.end()
 
 
 if __name__ == "__main__":

@@ -3,21 +3,36 @@
 
 usage: refused_memory.py GD      GD is the program, e.g. crates/gd_command/out/gd_command
 
-For each project below, and for each allocation of its run: that one alone is refused, and then that one and all after
-it. The run must answer as it does with memory, or end with status 7 and have written the beginning of that answer.
-The allocations are refused by refuse_allocations.c, which is loaded before the C library and is built here; without a
-C compiler nothing is tried. The last line is 'N passed, M failed'.
+Each call below first runs with memory, and must give the answer that stands beside it. Then, for each allocation of
+that run, it runs with that one alone refused, and with that one and all after it. It must answer as with memory, or end
+with status 7 and have written the beginning of that answer. The allocations are refused by refuse_allocations.c, which
+is loaded before the C library and is built here; without a C compiler nothing is tried. The last line is 'N passed, M
+failed'.
 """
 import os
+import pathlib
 import shutil
 import subprocess
 import sys
 import tempfile
+from typing import Dict, List, NamedTuple
+
+import cases  # (it also finds program.py)
+from program import Answer, Tally, named, project, run
 
 NO_MEMORY = 7
-ROOT = os.path.dirname(os.path.abspath(__file__))
+HERE = pathlib.Path(__file__).resolve().parent
 
-SCRIPT = """\
+
+class Call(NamedTuple):
+    words: List[str]
+    # bytes by path
+    files: Dict[str, bytes]
+    # the answer with memory
+    wanted: Answer
+
+
+FORMS = """\
 extends RefCounted
 signal hit(damage: int)
 enum State { IDLE, RUN = 4 }
@@ -26,91 +41,87 @@ var names: Array[String] = ["a", 'b']:
 		names = value
 	get:
 		return names
-func turn(left: int, by := 2) -> int:
-	var counts: Dictionary[String, int] = {"k": 1, "m": 2} # twice
-	for i in range(left):
-		if i is int and not i in counts:
-			counts["k"] += (left as int) if by > 2 else -by ** 2
-		elif super.turn(1): pass
-	match left:
-		1, 2 when by > 1: return 1
-		[var first, ..]: return 2
-		{"k": 1, ..}: return 3
-		_: assert(false, "no")
-	return turn(left - 1)
+class Base:
+	func turn(left: int, by := 2) -> int: return left * by
+class Wheel extends Base:
+	func turn(left: int, by := 2) -> int:
+		var counts: Dictionary[String, int] = {"k": 1, "m": 2} # twice
+		for i in range(left):
+			if i is int and not str(i) in counts:
+				counts["k"] += (i as int) if by > 2 else -by ** 2
+			elif super.turn(1) > 1: pass
+		while counts["k"] > 0x1F: counts["k"] -= 1
+		var event: Variant = left
+		match event:
+			1, 2 when by > 1: return 1
+			[var first, ..]: return 2
+			{"k": 1, ..}: return 3
+			_: assert(left > 0, "no")
+		return turn(left - 1)
 """
+SYNTAX_FAULT = FORMS + "func test():\n\tvar x = = 2\n"
+FAULTS = f"a.gd:{SYNTAX_FAULT.count(chr(10))}:10: error S01: syntax\nb.gd:2:10: error L07: float\n"
+PRINTS = "func test():\n\tprint(42)\n\tpass\n\tprint(7)\n"
+LINES = range(1, 301)
+MANY_PRINTS = "func test():\n" + "".join(f"\tprint({number})\n" for number in LINES)
+USAGE = cases.load(HERE / "run" / "words.case").runs[0].wanted
 
-# words, files
-RUNS = [
-    (["check"], {"good.gd": SCRIPT}),
-    (["check"], {"a.gd": SCRIPT + "func f():\n\tvar x = = 2\n", "b.gd": "func f():\n\tvar x = 1.5\n"}),
-    (["run", "main.gd"], {"main.gd": "extends RefCounted\nfunc _init():\n\tprint(42)\n\tprint(7)\n"}),
-    (["check", "more"], {}),
+CALLS = [
+    Call(["check"], {"good.gd": FORMS.encode()}, Answer(0, b"")),
+    Call(["check"], cases.load(HERE / "check" / "a-shop.case").files, Answer(0, b"")),
+    Call(["check"], {"a.gd": SYNTAX_FAULT.encode(), "b.gd": b"func f():\n\tvar x = 1.5\n"}, Answer(1, FAULTS.encode())),
+    Call(["run", "main.gd"], {"main.gd": PRINTS.encode()}, Answer(0, b"42\n7\n")),
+    Call(["run", "main.gd"], {"main.gd": MANY_PRINTS.encode()}, Answer(0, "".join(f"{it}\n" for it in LINES).encode())),
+    Call(["run"], {}, USAGE),
 ]
 
 
-def answer(program, words, folder, library, **settings):
-    """The status and the output of a run under these settings of the library."""
-    environment = dict(os.environ, LD_PRELOAD=library, **settings)
-    run = subprocess.run([program, *words], cwd=folder, env=environment, capture_output=True, timeout=60)
-    return run.returncode, run.stdout
+def under(program, words, folder, library, **settings):
+    """The answer of a run under these settings of the library."""
+    return run(program, words, folder, dict(os.environ, LD_PRELOAD=str(library), **settings))
 
 
-def allocations(program, words, folder, library):
+def with_memory(program, words, folder, library):
     """The answer of a run with memory, and the number of its allocations."""
-    count = os.path.join(folder, "count")
-    whole = answer(program, words, folder, library, COUNT_INTO=count)
-    with open(count, encoding="ascii") as file:
-        number = int(file.read())
-    os.remove(count)
-    return whole, number
+    with tempfile.TemporaryDirectory() as aside:
+        count = pathlib.Path(aside, "count")
+        whole = under(program, words, folder, library, COUNT_INTO=str(count))
+        return whole, int(count.read_text()) if count.exists() else 0
 
 
 def is_allowed(found, whole):
     """Whether this is the answer with memory, or its beginning and the status of want of memory."""
-    status, output = found
-    return found == whole or (status == NO_MEMORY and whole[1].startswith(output))
+    return found == whole or found == Answer(NO_MEMORY, whole.output[:len(found.output)])
 
 
-def tried(program, words, files, library):
-    """The number of runs that end as they should, and what is said of the others."""
-    with tempfile.TemporaryDirectory() as folder:
-        for name, text in files.items():
-            with open(os.path.join(folder, name), "w", encoding="utf-8") as file:
-                file.write(text)
-        whole, number = allocations(program, words, folder, library)
-        passed, failed, refused = 0, [], 0
+def try_call(program, call, library, tally):
+    """Runs a call with memory, and with each of its allocations refused."""
+    what = " ".join(call.words)
+    with project(call.files) as folder:
+        whole, number = with_memory(program, call.words, folder, library)
+        tally.expect(whole == call.wanted, f"{what}, with memory: {whole}, where wanted is {call.wanted}")
+        refused = 0
         for which in range(1, number + 1):
             for setting in ("REFUSE_ONE", "REFUSE_FROM"):
-                found = answer(program, words, folder, library, **{setting: str(which)})
-                refused += found[0] == NO_MEMORY
-                if is_allowed(found, whole):
-                    passed += 1
-                else:
-                    failed.append(f"{' '.join(words)}, {setting}={which}: {found!r} for {whole!r}")
-        if refused == 0:
-            failed.append(f"{' '.join(words)}: no run of {number} wanted memory, so nothing was refused")
-    return passed, failed
+                found = under(program, call.words, folder, library, **{setting: str(which)})
+                refused += found.status == NO_MEMORY
+                tally.expect(is_allowed(found, whole), f"{what}, {setting}={which} of {number}: {found} for {whole}")
+    tally.expect(refused > 0, f"{what}: no run of {number} allocations ended for want of memory")
 
 
 def main():
-    program = os.path.abspath(sys.argv[1])
+    program, tally = named(sys.argv[1]), Tally()
     compiler = shutil.which("cc") or shutil.which("gcc")
     if compiler is None:
         print("refused memory: skipped, since there is no C compiler")
         return
-    passed, failed = 0, []
     with tempfile.TemporaryDirectory() as folder:
-        library = os.path.join(folder, "refuse_allocations.so")
-        source = os.path.join(ROOT, "refuse_allocations.c")
-        subprocess.run([compiler, "-shared", "-fPIC", "-O1", "-o", library, source], check=True)
-        for words, files in RUNS:
-            good, bad = tried(program, words, files, library)
-            passed, failed = passed + good, failed + bad
-    for line in failed:
-        print("FAILED", line)
-    print(f"{passed} passed, {len(failed)} failed")
-    sys.exit(1 if failed else 0)
+        library = pathlib.Path(folder, "refuse_allocations.so")
+        source = HERE / "refuse_allocations.c"
+        subprocess.run([compiler, "-shared", "-fPIC", "-O1", "-o", str(library), str(source)], check=True)
+        for call in CALLS:
+            try_call(program, call, library, tally)
+    tally.end()
 
 
 if __name__ == "__main__":
