@@ -51,17 +51,19 @@ def needed():
 
 def changed(place):
     """When a file, or a folder with all in it, was last changed."""
-    inside = [os.path.join(at, name) for at, folders, names in os.walk(place) for name in [*folders, *names]]
-    return max(os.stat(it).st_mtime for it in [place, *inside])
+    times = [os.stat(place).st_mtime]
+    for at, folders, names in os.walk(place):
+        for name in [*folders, *names]:
+            # (an editor's file may be gone again)
+            with contextlib.suppress(FileNotFoundError):
+                times.append(os.stat(os.path.join(at, name)).st_mtime)
+    return max(times)
 
 
-def is_current(names):
-    """Whether the program is there, and no source of these crates is newer."""
-    if not os.access(BUILT, os.X_OK):
-        return False
+def last_change(names):
+    """When a source of these crates was last changed."""
     places = [ROOT / "crates" / name / part for name in names for part in crates.SOURCES]
-    sources = [ROOT / "crates.txt", *[place for place in places if place.exists()]]
-    return max(map(changed, sources)) <= os.stat(BUILT).st_mtime
+    return max(map(changed, [ROOT / "crates.txt", *[place for place in places if place.exists()]]))
 
 
 def at_once():
@@ -216,9 +218,11 @@ def main():
         except BlockingIOError:
             say("another call is building the program; waiting for it")
             fcntl.flock(log, fcntl.LOCK_EX)
-        # (a source that changes while this runs is newer than the program then)
+        # the time that the program gets, so that a source which changes while this runs is newer
         began = time.time()
-        if not is_current(names):
+        newest = last_change(names)
+        began = max(began, newest)
+        if not os.access(BUILT, os.X_OK) or os.stat(BUILT).st_mtime < newest:
             if shutil.which("rt") is None:
                 say("the program is to be built, and rt is not on PATH: it lies in the kit's folder bin/")
                 return NOT_BUILT

@@ -84,7 +84,7 @@ def proved(folder, *words):
 
 
 def forget(folder):
-    """Removes what checks of a crate kept, but for its library; an empty folder in its place keeps other copies' out."""
+    """Removes what checks of a crate kept, but for its library. An empty folder there keeps other copies' work out."""
     kept = folder / "out" / "incremental"
     shutil.rmtree(kept, ignore_errors=True)
     kept.mkdir(parents=True)
