@@ -4,7 +4,10 @@
 mod operator;
 mod pos;
 mod seq;
+#[cfg(test)]
+mod tests;
 mod text;
+mod text_builder;
 mod token;
 mod tree;
 
@@ -12,6 +15,7 @@ pub use operator::Operator;
 pub use pos::Pos;
 pub use seq::Seq;
 pub use text::{MAX_TEXT, Text, TextFault};
+pub use text_builder::TextBuilder;
 pub use token::{Keyword, Mark, Token, TokenKind};
 pub use tree::{
     Accessor, BaseName, Branch, ClassDecl, Decl, DeclKind, Expr, ExprKind, FuncDecl, Note, Pattern,

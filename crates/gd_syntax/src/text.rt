@@ -1,8 +1,9 @@
 //! A text, which contracts see as the list of its code points.
-ghost use Rattle.std.specs.Prelude.{◌≡◌, ◌<◌, ◌≤◌, ◌↔◌, ◌⊎◌, chars, encode_utf8_all, length, nat_eq, Some, IfOk, IsErrOf, IsUtf8, OnErr};
+ghost use Rattle.std.specs.Prelude.{◌≡◌, ◌<◌, ◌≤◌, ◌↔◌, ◌⊎◌, [], ◌∷◌, chars, encode_utf8_all, length, nat_eq, Some, IfOk, IsErrOf, IsTrue, IsUtf8, OnErr};
 ghost use Rattle.std.specs.Cmp.Lexicographic.{pointwise, slice_cmp};
 ghost use Rattle.std.specs.Hash as fed;
 ghost use Rattle.std.specs.List.{slice_get};
+ghost use Rattle.std.specs.Str.{IsAscii};
 ghost use Rattle.std.specs.Ordering.{nat_cmp};
 ghost use Rattle.std.proofs.lemmas.Cmp.{nat_list_cmp_total, nat_list_eq_equiv};
 ghost use Rattle.std.specs.Cmp.{partial_equiv_from_equiv};
@@ -10,32 +11,39 @@ ghost use Rattle.std.specs.Cmp.Lexicographic.{texts_ties, texts_po};
 ghost use Rattle.std.specs.Cmp.Rules.{comparing, hashing};
 ghost use Rattle.std.proofs.Common.{rules, refl};
 
+use crate::text_builder::add_bytes;
 use no_memory::NoMemory;
+use smallvec::SmallVec;
 use std::alloc::{AllocError, Global};
 use std::cmp::Ordering;
 use std::hash::{Hash, Hasher};
 use std::marker::Model;
-use std::rc::RcSlice;
+use std::rc::Rc;
 use thiserror::Error;
 
 /// The most code points that a text has.
 pub const MAX_TEXT: usize = 16_777_216;
 
-/// An immutable text. Copies made by `share` use the same characters.
+/// The most code points that lie in the block of a text itself. A longer text has them in a second block.
+pub(crate) const SHORT: usize = 12;
+
+/// An immutable text. It is one block of memory up to `SHORT` code points, and two above: the invariant says so. Copies
+/// made by `share` use the same characters.
 #[derive(Drop)]
 pub struct Text {
-    chars: RcSlice<char>,
+    chars: Rc<SmallVec<char, SHORT>>,
 }
 
 impl Model for Text {
     ghost use Rattle.std.specs.Prelude.{List, ℕ, ◌≤◌, length};
-    ghost use Rattle.std.specs.Rc.{rc_slice_items};
 
     ghost Value = { List ℕ };
 
-    ghost view = { λ t. rc_slice_items t.chars };
+    ghost view = { λ t. t.chars.value.items };
 
-    ghost invariant = { λ t. length (rc_slice_items t.chars) ≤ 16777216 };
+    // Within the limit, and a short text has no room but that in its block.
+    ghost invariant = { λ t. (length t.chars.value.items ≤ 16777216)
+        × (length t.chars.value.items ≤ 12 → t.chars.value.capacity ≤ 12) };
 }
 
 /// Why a text cannot be made.
@@ -55,16 +63,67 @@ pub enum TextFault {
     NoMemory,
 }
 
+impl From<NoMemory> for TextFault {
+    ghost use Rattle.gd_syntax.specs.declared.text.TextFault.TheVariants.{NoMemory};
+
+    ghost from_gives = { λ _ fault. fault ≡ NoMemory };
+
+    fn from(_: NoMemory) -> TextFault {
+        TextFault::NoMemory
+    }
+}
+
+impl From<AllocError> for TextFault {
+    ghost use Rattle.gd_syntax.specs.declared.text.TextFault.TheVariants.{NoMemory};
+
+    ghost from_gives = { λ _ fault. fault ≡ NoMemory };
+
+    fn from(_: AllocError) -> TextFault {
+        TextFault::NoMemory
+    }
+}
+
 fn count_chars(text: &str) -> usize
     ensures { result ≡ length (chars text.now) }
 {
     text.chars().count()
 }
 
-fn collect_chars(alloc: Global, text: &str) -> Result<Vec<char>, AllocError>
+/// Whether there are more characters than a text has. They are no more than the bytes, so that few texts are counted.
+#[tactic(auto, using(crate::proofs::Spelled::chars_are_few))]
+fn is_too_long(text: &str) -> bool
+    ensures { IsTrue result ↔ (MAX_TEXT < length (chars text.now)) }
+{
+    text.len() > MAX_TEXT && count_chars(text) > MAX_TEXT
+}
+
+fn collect_chars(alloc: Global, text: &str) -> Result<SmallVec<char, SHORT>, AllocError>
     ensures { IfOk result (λ all. all.items ≡ chars text.now) }
 {
     text.chars().collect(alloc)
+}
+
+/// The characters of the text. Those of an ASCII text are its bytes.
+#[tactic(auto, using(crate::proofs::Spelled::chars_of_ascii))]
+fn decoded(alloc: Global, text: &str) -> Result<SmallVec<char, SHORT>, AllocError>
+    ensures { IfOk result (λ all. all.items ≡ chars text.now) }
+{
+    if text.is_ascii() {
+        let mut all = SmallVec::new(alloc);
+        add_bytes(&mut all, text.as_bytes())?;
+        return Ok(all);
+    }
+    collect_chars(alloc, text)
+}
+
+/// Takes over the buffer of a long list. That of a short one goes, and its characters lie in the block of the text.
+fn packed(chars: Vec<char>) -> Result<SmallVec<char, SHORT>, AllocError>
+    ensures { IfOk result (λ all. all.items ≡ chars.items) }
+{
+    if chars.len() <= SHORT {
+        return SmallVec::from_slice(*chars.allocator(), chars.as_slice());
+    }
+    Ok(SmallVec::from_vec(chars))
 }
 
 impl Text {
@@ -77,9 +136,39 @@ impl Text {
         if chars.len() > MAX_TEXT {
             return Err(TextFault::TooLong);
         }
-        match RcSlice::from_vec(chars) {
+        Ok(Text::over(packed(chars)?)?)
+    }
+
+    /// The text of a copy of these characters. `TooLong` exactly where there are more than `MAX_TEXT`.
+    pub fn of_slice(alloc: Global, chars: &[char]) -> Result<Text, TextFault>
+        ensures text { IfOk result (λ t. t ≡ chars.now) }
+        ensures too_long { OnErr result (IsErrOf result TextFault.TooLong ⊎ IsErrOf result TextFault.NoMemory) }
+        ensures long { IsErrOf result TextFault.TooLong ↔ (MAX_TEXT < length chars.now) }
+    {
+        if chars.len() > MAX_TEXT {
+            return Err(TextFault::TooLong);
+        }
+        Ok(Text::over(SmallVec::from_slice(alloc, chars)?)?)
+    }
+
+    /// The text of one character.
+    pub fn one(alloc: Global, c: char) -> Result<Text, NoMemory>
+        ensures { IfOk result (λ t. t ≡ c ∷ []) }
+    {
+        Text::over(SmallVec::from_slice(alloc, &[c])?)
+    }
+
+    /// The text over these characters, of which there are no more than a text has.
+    pub(crate) fn over(mut chars: SmallVec<char, SHORT>) -> Result<Text, NoMemory>
+        requires { length chars.items ≤ MAX_TEXT }
+        ensures { IfOk result (λ t. t ≡ chars.items) }
+    {
+        if chars.len() <= SHORT {
+            chars.shrink_to_fit();
+        }
+        match Rc::new(*chars.allocator(), chars) {
             Ok(chars) => Ok(Text { chars }),
-            Err(_) => Err(TextFault::NoMemory),
+            Err(_) => Err(NoMemory),
         }
     }
 
@@ -94,13 +183,10 @@ impl Text {
         let Ok(text) = str::from_utf8(bytes) else {
             return Err(TextFault::NotUtf8);
         };
-        if count_chars(text) > MAX_TEXT {
+        if is_too_long(text) {
             return Err(TextFault::TooLong);
         }
-        match collect_chars(alloc, text) {
-            Ok(chars) => Text::of(chars),
-            Err(_) => Err(TextFault::NoMemory),
-        }
+        Ok(Text::over(decoded(alloc, text)?)?)
     }
 
     /// The bytes of the text in UTF-8.
@@ -109,8 +195,8 @@ impl Text {
         ensures utf8 { IfOk result (λ bytes. IsUtf8 bytes.items) }
         ensures spells { IfOk result (λ bytes. chars bytes.items ≡ self.now) }
     {
-        let mut text = String::with_capacity(alloc, self.chars.len())?;
-        for c in self.chars.as_slice() {
+        let mut text = String::with_capacity(alloc, self.chars().len())?;
+        for c in self.chars() {
             text.push(*c)?;
         }
         Ok(text.into_bytes())
@@ -131,14 +217,14 @@ impl Text {
         ensures value { result ≡ length self.now }
         ensures limit { result ≤ MAX_TEXT }
     {
-        self.chars.len() as u32
+        self.chars().len() as u32
     }
 
     /// The code point at place `i`, counted from 0.
     pub fn at(&self, i: u32) -> Option<u32>
         ensures { result ≡ slice_get self.now i }
     {
-        match self.chars.as_slice().get(i as usize) {
+        match self.chars().get(i as usize) {
             Some(c) => Some(*c as u32),
             None => None,
         }
@@ -156,7 +242,7 @@ impl Text {
     pub fn compare(&self, other: &Text) -> Ordering
         ensures { result ≡ slice_cmp nat_cmp self.now other.now }
     {
-        self.chars.as_slice().cmp(other.chars.as_slice())
+        self.chars().cmp(other.chars())
     }
 }
 
@@ -166,7 +252,7 @@ impl PartialEq for Text {
     ghost laws = { partial_equiv_from_equiv nat_list_eq_equiv };
 
     fn eq(&self, other: &Text) -> bool {
-        self.chars == other.chars
+        self.chars() == other.chars()
     }
 }
 
@@ -204,6 +290,6 @@ impl Hash for Text {
     ghost respects_eq = { Prim.search (hashing, rules) };
 
     fn hash<H: Hasher>(&self, state: &mut H) {
-        self.chars.hash(state);
+        self.chars().hash(state);
     }
 }
