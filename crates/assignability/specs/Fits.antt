@@ -5,7 +5,7 @@ use Rattle.gd_model.specs.declared.ty.Ty.{Ty, out-Ty}
 use Rattle.gd_model.specs.declared.ty.Ty.TheOpen.{Ty-F, Variant, Nil, Bool, Int, Str, Callable, Signal, Dict, DictOf, Array, ArrayOf, Class, Void}
 use Rattle.gd_model.specs.declared.value.Value.{Value}
 use Rattle.gd_model.specs.declared.value.Value.TheVariants as v
-use Rattle.gd_model.specs.Store.{Thing, array_behind, dict_behind, class_behind}
+use Rattle.gd_model.specs.View.{ThingView, array_in, dict_in, class_in}
 use Rattle.assignability.specs.Assign.{is_among}
 
 -- by the shape of the type

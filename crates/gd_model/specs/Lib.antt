@@ -10,3 +10,4 @@ pub mod Refusal
 pub mod Same
 pub mod Store
 pub mod View
+pub mod Whole
