@@ -1,8 +1,8 @@
 //! The things that are known to be there, since a value that is whole leads to them.
-ghost use Rattle.std.specs.Prelude.{◌≡◌, Some, option_and_then};
+ghost use Rattle.std.specs.Prelude.{◌≡◌};
 ghost use Rattle.gd_model.specs.declared.value.Value.TheVariants as v;
 ghost use Rattle.gd_model.specs.Meant.{array_thing, dict_thing};
-ghost use Rattle.gd_model.specs.Store.{array_behind, dict_behind, class_behind};
+ghost use Rattle.gd_model.specs.Store.{array_at, dict_at, class_name_at};
 ghost use Rattle.gd_model.specs.Whole.{Whole, AllWhole, pair_values};
 
 use crate::{Look, OrderedDict, TypedArray};
@@ -12,7 +12,7 @@ use slot_arena::Handle;
 /// The array that a whole value names. Its elements are whole.
 pub fn array_of<K: Look>(look: &K, h: Handle) -> &TypedArray
     requires whole { Whole (K.things look.now) (K.names look.now) (v.Array h) }
-    ensures there { array_behind (K.store look.now h.serial) ≡ Some (array_thing result.now) }
+    ensures there { array_at (K.store look.now) h.serial ≡ array_thing result.now }
     ensures inside { AllWhole (K.things look.now) (K.names look.now) result.now.items }
 {
     match look.array(h) {
@@ -24,7 +24,7 @@ pub fn array_of<K: Look>(look: &K, h: Handle) -> &TypedArray
 /// The dictionary that a whole value names. Its keys and values are whole.
 pub fn dict_of<K: Look>(look: &K, h: Handle) -> &OrderedDict
     requires whole { Whole (K.things look.now) (K.names look.now) (v.Dict h) }
-    ensures there { dict_behind (K.store look.now h.serial) ≡ Some (dict_thing result.now) }
+    ensures there { dict_at (K.store look.now) h.serial ≡ dict_thing result.now }
     ensures inside { AllWhole (K.things look.now) (K.names look.now) (pair_values result.now.pairs) }
 {
     match look.dict(h) {
@@ -36,7 +36,7 @@ pub fn dict_of<K: Look>(look: &K, h: Handle) -> &OrderedDict
 /// The name of the class of the object that a whole value names.
 pub fn class_name_of<K: Look>(look: &K, h: Handle) -> &Text
     requires whole { Whole (K.things look.now) (K.names look.now) (v.Object h) }
-    ensures { option_and_then (K.names look.now) (class_behind (K.store look.now h.serial)) ≡ Some result.now }
+    ensures { class_name_at (K.store look.now) (K.names look.now) h.serial ≡ result.now }
 {
     let Some(class) = look.class_of(h) else {
         unreachable!();

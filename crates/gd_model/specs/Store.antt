@@ -1,8 +1,9 @@
 -- The things of a run, by their serial numbers.
-use Rattle.std.specs.Prelude.{ℕ, Bool, List, Option, None, Some}
+use Rattle.std.specs.Prelude.{ℕ, Bool, false, List, [], Option, None, Some, unwrap_or, option_and_then}
 use Rattle.std.specs.Map.{lookup, lookup_entry, remove_entry}
 use Rattle.indexmap.specs.IndexMap.{insert_entry}
 use Rattle.gd_model.specs.declared.ty.Ty.{Ty}
+use Rattle.gd_model.specs.declared.ty.Ty.TheVariants.{Variant}
 use Rattle.gd_model.specs.Datum.{Datum}
 use Rattle.gd_model.specs.Same.{same_key}
 
@@ -45,6 +46,17 @@ dict_behind _ = None
 abbrev pub class_behind : Option Thing → Option ℕ
 class_behind (Some (object class values)) = Some class
 class_behind _ = None
+
+-- the array, the dictionary and the name of the class of the object with a serial number. Where there is none an empty one
+-- stands, so that what is said over them is a function; no run reads it
+abbrev pub array_at : Store → ℕ → ArrayThing
+array_at store s = unwrap_or (array_behind (store s)) (record { element = Variant; fixed = false; items = [] })
+
+abbrev pub dict_at : Store → ℕ → DictThing
+dict_at store s = unwrap_or (dict_behind (store s)) (record { key_type = Variant; value_type = Variant; fixed = false; pairs = [] })
+
+abbrev pub class_name_at : Store → Names → ℕ → List ℕ
+class_name_at store names s = unwrap_or (option_and_then names (class_behind (store s))) []
 
 -- the value at a key
 abbrev pub value_at : List (Datum × Datum) → Datum → Option Datum
