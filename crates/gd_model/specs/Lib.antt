@@ -8,6 +8,7 @@ pub mod Place
 pub mod Plain
 pub mod Refusal
 pub mod Same
+pub mod SameType
 pub mod Store
 pub mod View
 pub mod Whole
