@@ -5,6 +5,7 @@ use Rattle.gd_model.specs.declared.fault.RunFault.TheVariants.{TooLong, OutOfRan
 use Rattle.gd_model.specs.Datum as d
 use Rattle.gd_model.specs.Datum.{Datum}
 use Rattle.gd_model.specs.Store.{ArrayThing, DictThing}
+use Rattle.value_semantics.specs.Answer.{in_form}
 
 pub data Made : Type 0 where
   value : Datum → Made
@@ -23,8 +24,11 @@ place_made None = int_made (negsuc 0)
 place_made (Some i) = int_made (pos i)
 
 -- a text, unless it passes the limit
+abbrev pub limited : List ℕ → Result (List ℕ) RunFault
+limited t = if nat_le (length t) 16777216 then Ok t else Err TooLong
+
 abbrev pub text_made : List ℕ → Result Made RunFault
-text_made t = if nat_le (length t) 16777216 then Ok (value (d.text t)) else Err TooLong
+text_made t = in_form (λ s. value (d.text s)) (limited t)
 
 -- the text of a call that may be out of range
 abbrev pub text_in_range : Option (List ℕ) → Result Made RunFault
