@@ -1,7 +1,7 @@
 -- Two types are one, or they are not.
 use Rattle.std.proofs.Common.{◌≡◌, ◌≢◌, ℕ, zero, suc, ◌⊎◌, inl, inr, refl, ap, sym, ◌∙◌, subst, true≢false}
-use Rattle.std.specs.Prelude.{Bool as Truth, true, false}
-use Rattle.std.specs.Bool.{Decides}
+use Rattle.std.specs.Prelude.{Bool as Truth, true, false, ◌↔◌, IsTrue}
+use Rattle.std.specs.Bool.{Decides, one_answer}
 use Rattle.gd_model.specs.declared.ty.Ty.{Ty}
 use Rattle.gd_model.specs.declared.ty.Ty.TheOpen.{Ty-F, Variant, Nil, Bool, Int, Str, Callable, Signal, Dict, DictOf, Array, ArrayOf, Class, Void, Meta, Bad}
 use Rattle.gd_model.specs.declared.ty.Ty.TheViews.{out-Ty, roll-Ty, out-roll-Ty, roll-out-Ty}
@@ -67,3 +67,7 @@ decides (inr apart) = (λ e. absurd (true≢false (sym e)), λ a. absurd (apart 
 pub same_type-Decides : (t u : Ty) → Decides (same_type t u) (t ≡ u)
 unfolding same_type
 same_type-Decides t u = decides (same_or_apart t u)
+
+-- what decides whether two types are one is that test
+pub by_deciding : (b : Truth) (t u : Ty) → IsTrue b ↔ (t ≡ u) → b ≡ same_type t u
+by_deciding b t u d = one_answer b (same_type t u) (λ e. d.0 e, λ e. d.1 e) (same_type-Decides t u)
