@@ -62,7 +62,8 @@ fn dict_fits(t: &Ty, dict: &OrderedDict) -> bool
 {
     match t {
         Ty::Variant | Ty::Dict => true,
-        Ty::DictOf(key, value) => dict.key_type().same(key.get()) && dict.value_type().same(value.get()),
+        Ty::DictOf(key, value) => dict.key_type().same(key.get())
+            && dict.value_type().same(value.get()),
         _ => false,
     }
 }
