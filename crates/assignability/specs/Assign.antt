@@ -4,8 +4,8 @@ use Rattle.std.specs.List.{list_any}
 use Rattle.gd_model.specs.declared.ty.Ty.{Ty, ArrayOf', DictOf'}
 use Rattle.gd_model.specs.declared.ty.Ty.TheVariants as ty
 use Rattle.gd_model.specs.SameType.{same_type}
-use Rattle.assignability.specs.declared.assign.Assignment.{Assignment}
-use Rattle.assignability.specs.declared.assign.Assignment.TheVariants.{Sure, Checked, Never}
+use Rattle.assignability.specs.declared.assignment.Assignment.{Assignment}
+use Rattle.assignability.specs.declared.assignment.Assignment.TheVariants.{Sure, Checked, Never}
 
 -- the class is among the bases; the bases of a class are itself, its base, that one's base, and so on
 abbrev pub is_among : List ℕ → ℕ → Bool

@@ -1,6 +1,8 @@
 -- Which values fit a type.
 use Rattle.std.specs.Prelude.{ℕ, Bool, true, false, ◌&&◌, List, Option, None, Some, is_some}
-use Rattle.gd_model.specs.declared.ty.Ty.{Ty, ArrayOf', DictOf'}
+use Rattle.gd_model.specs.declared.ty.Ty.{Ty, out-Ty}
+use Rattle.gd_model.specs.declared.ty.Ty.TheOpen as open_ty
+use Rattle.gd_model.specs.declared.ty.Ty.TheOpen.{Ty-F}
 use Rattle.gd_model.specs.declared.ty.Ty.TheVariants as ty
 use Rattle.gd_model.specs.Datum.{Datum, null, bool, int, text, object, array, dictionary, callable, signal}
 use Rattle.gd_model.specs.SameType.{same_type}
@@ -23,19 +25,25 @@ class_fits bases ty.Variant d = true
 class_fits bases (ty.Class c) (Some d) = is_among (bases d) c
 class_fits bases t d = false
 
--- an array fits Array, and the typed array of its own element type
+-- an array fits Array, and the typed array of its own element type; by the shape of the type
+abbrev pub array_fits_shape : Ty-F Ty → Option ArrayThing → Bool
+array_fits_shape open_ty.Variant a = true
+array_fits_shape open_ty.Array (Some a) = true
+array_fits_shape (open_ty.ArrayOf e) (Some a) = same_type a.element e
+array_fits_shape t a = false
+
 abbrev pub array_fits : Ty → Option ArrayThing → Bool
-array_fits ty.Variant a = true
-array_fits ty.Array (Some a) = true
-array_fits (ArrayOf' p e) (Some a) = same_type a.element e
-array_fits t a = false
+array_fits t a = array_fits_shape (out-Ty t) a
 
 -- a dictionary fits Dictionary, and the typed dictionary of its own types
+abbrev pub dict_fits_shape : Ty-F Ty → Option DictThing → Bool
+dict_fits_shape open_ty.Variant d = true
+dict_fits_shape open_ty.Dict (Some d) = true
+dict_fits_shape (open_ty.DictOf k v) (Some d) = same_type d.key_type k && same_type d.value_type v
+dict_fits_shape t d = false
+
 abbrev pub dict_fits : Ty → Option DictThing → Bool
-dict_fits ty.Variant d = true
-dict_fits ty.Dict (Some d) = true
-dict_fits (DictOf' p k q v) (Some d) = same_type d.key_type k && same_type d.value_type v
-dict_fits t d = false
+dict_fits t d = dict_fits_shape (out-Ty t) d
 
 -- a value that is no thing fits the type of its kind
 abbrev pub bool_fits : Ty → Bool

@@ -1,10 +1,10 @@
 //! Which types go where: what may be assigned, and which values fit a type (docs/language.md, "Types").
 #![tactic(auto)]
 
-mod assign;
+mod assignment;
 mod bases;
-mod fits;
+mod fitting;
 
-pub use assign::{Assignment, assign};
+pub use assignment::{Assignment, assign};
 pub use bases::Bases;
-pub use fits::fits;
+pub use fitting::fits;
