@@ -54,5 +54,5 @@ item_written a i fits v = if a.fixed then Err ReadOnly else Err BadOperands
 abbrev pub entry_written : DictThing → Datum → Bool → Bool → Datum → Result DictThing RunFault
 entry_written d k key_fits value_fits v = unless
     ((d.fixed, ReadOnly) ∷ (not (is_key k), BadKey) ∷ (not key_fits, ValueOfAnotherType) ∷ (not value_fits, ValueOfAnotherType)
-        ∷ (nat_le 16777216 (length d.pairs) && is_none (value_at d.pairs k), TooLong) ∷ [])
+    ∷ (nat_le 16777216 (length d.pairs) && is_none (value_at d.pairs k), TooLong) ∷ [])
     (record d { pairs = with_pair d.pairs k v })

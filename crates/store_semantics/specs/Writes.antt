@@ -164,8 +164,8 @@ abbrev pub merge : (Datum → Bool) → (Datum → Bool) → DictThing → DictT
 merge key_fits value_fits m other over =
     let written = merging over m other in
     silent (unless
-        ((not (list_all (λ p. key_fits p.0 && value_fits p.1) written), ValueOfAnotherType) ∷ (nat_lt 16777216 (length (put_all m.pairs written)), TooLong) ∷ [])
-        (record m { pairs = put_all m.pairs written }))
+    ((not (list_all (λ p. key_fits p.0 && value_fits p.1) written), ValueOfAnotherType) ∷ (nat_lt 16777216 (length (put_all m.pairs written)), TooLong) ∷ [])
+    (record m { pairs = put_all m.pairs written }))
 
 -- a method of a dictionary that may be written, `key_fits` and `value_fits` being whether a value fits its types
 abbrev pub dict_gives : (Datum → Bool) → (Datum → Bool) → Store → Builtin → DictThing → List Datum → Written DictThing

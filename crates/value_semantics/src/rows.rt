@@ -1,5 +1,6 @@
 //! For which kinds of operands there is each operator, and what type it gives (docs/runtime.md, "Operators").
-ghost use Rattle.std.specs.Prelude.{◌≡◌, ◌↔◌, Bool, IsTrue, map};
+ghost use Rattle.std.specs.Prelude.{◌≡◌, map};
+ghost use Rattle.gd_model.specs.SameType.{same_type};
 ghost use Rattle.value_semantics.specs.Kinds as spec;
 ghost use Rattle.value_semantics.specs.OperatorRows as table;
 
@@ -238,7 +239,7 @@ pub fn is_unary(op: Operator) -> bool
 /// The type that the operator gives with operands of these types, `b` being ignored where it takes one operand;
 /// `None` exactly where it is not there for them. With a Variant operand it is bool for a test, else Variant.
 pub fn result_type(op: Operator, a: &Ty, b: &Ty) -> Option<Given>
-    ensures { (same : Bool) → (IsTrue same ↔ (a.now ≡ b.now)) → result ≡ spec.result_type op a.now b.now same }
+    ensures { result ≡ spec.result_type op a.now b.now (same_type a.now b.now) }
 {
     if is_no_value(a) || (!is_unary(op) && is_no_value(b)) {
         return None;
