@@ -1,13 +1,10 @@
-//! Which types go where: what may be assigned, and which values fit a type.
+//! Which types go where: what may be assigned, and which values fit a type (docs/language.md, "Types").
 #![tactic(auto)]
 
-/// Whether a value of one type may be assigned to a place of another.
-#[derive(Clone, Copy, Debug, PartialEq, Eq)]
-pub enum Assignment {
-    /// It fits.
-    Sure,
-    /// It may fit, and is tested when it is assigned.
-    Checked,
-    /// It does not fit.
-    Never,
-}
+mod assignment;
+mod bases;
+mod fitting;
+
+pub use assignment::{Assignment, assign};
+pub use bases::Bases;
+pub use fitting::fits;

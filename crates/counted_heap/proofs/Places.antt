@@ -4,7 +4,7 @@ use Rattle.std.specs.Prelude.{slice_get, option_and_then}
 use Rattle.std.proofs.lemmas.Option.{get_or_from_slice_get}
 use Rattle.std.proofs.lemmas.List.{get_or-map}
 use Rattle.std.proofs.lemmas.Bool.{lt-ltb}
-use Rattle.gd_model.specs.declared.value.Key.{Key}
+use Rattle.gd_model.specs.declared.key.Key.{Key}
 use Rattle.gd_model.specs.declared.value.Value.{Value}
 use Rattle.gd_holding.specs.Handles.{value_handle, key_handle}
 use Rattle.gd_containers.specs.Answers.{item_at}

@@ -1,7 +1,7 @@
 -- What the places of a thing hold.
 use Rattle.std.specs.Prelude.{ℕ, List, [], ◌∷◌, Option, Some, None, map}
 use Rattle.slot_arena.specs.declared.handle.Handle.{Handle}
-use Rattle.gd_model.specs.declared.value.Key.{Key}
+use Rattle.gd_model.specs.declared.key.Key.{Key}
 use Rattle.gd_model.specs.declared.value.Value.{Value}
 use Rattle.gd_holding.specs.Handles.{value_handle, key_handle}
 use Rattle.counted_heap.specs.declared.thing.Thing as thing

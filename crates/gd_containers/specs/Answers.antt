@@ -3,10 +3,10 @@ use Rattle.std.specs.Prelude.{◌≡◌, ℤ, Bool, not, ◌&&◌, List, [], ◌
 use Rattle.gd_model.specs.declared.fault.RunFault.{RunFault}
 use Rattle.gd_model.specs.declared.fault.RunFault.TheVariants.{ReadOnly, OutOfRange, ValueOfAnotherType, TooLong}
 use Rattle.gd_model.specs.declared.value.Value.{Value}
-use Rattle.gd_model.specs.declared.value.Key.{Key}
+use Rattle.gd_model.specs.declared.key.Key.{Key}
 use Rattle.gd_model.specs.Place.{place, gap}
 use Rattle.gd_model.specs.Refusal.{refusal}
-use Rattle.gd_model.specs.Thing.{ArrayThing, DictThing, value_at}
+use Rattle.gd_model.specs.View.{ArrayView, DictView, value_at}
 use Rattle.gd_containers.specs.declared.fault.ThingFault.{ThingFault}
 use Rattle.gd_containers.specs.declared.fault.ThingFault.TheVariants.{Run, NoMemory}
 
@@ -24,23 +24,23 @@ is_full xs = nat_le 16777216 (length xs)
 abbrev pub item_at : List Value → ℤ → Option Value
 item_at items at = option_and_then (λ i. slice_get items i) (place at (length items))
 
-abbrev pub push_fault : ArrayThing → Bool → Option RunFault
+abbrev pub push_fault : ArrayView → Bool → Option RunFault
 push_fault a fits = refusal ((a.fixed, ReadOnly) ∷ (not fits, ValueOfAnotherType) ∷ (is_full a.items, TooLong) ∷ [])
 
-abbrev pub insert_fault : ArrayThing → ℤ → Bool → Option RunFault
+abbrev pub insert_fault : ArrayView → ℤ → Bool → Option RunFault
 insert_fault a at fits =
     refusal ((a.fixed, ReadOnly) ∷ (is_none (gap at (length a.items)), OutOfRange) ∷ (not fits, ValueOfAnotherType) ∷ (is_full a.items, TooLong) ∷ [])
 
-abbrev pub set_fault : ArrayThing → ℤ → Bool → Option RunFault
+abbrev pub set_fault : ArrayView → ℤ → Bool → Option RunFault
 set_fault a at fits = refusal ((a.fixed, ReadOnly) ∷ (is_none (place at (length a.items)), OutOfRange) ∷ (not fits, ValueOfAnotherType) ∷ [])
 
-abbrev pub remove_fault : ArrayThing → ℤ → Option RunFault
+abbrev pub remove_fault : ArrayView → ℤ → Option RunFault
 remove_fault a at = refusal ((a.fixed, ReadOnly) ∷ (is_none (place at (length a.items)), OutOfRange) ∷ [])
 
 abbrev pub clear_fault : Bool → Option RunFault
 clear_fault fixed = refusal ((fixed, ReadOnly) ∷ [])
 
 -- a new key passes the limit of a dictionary that is full
-abbrev pub put_fault : DictThing → Key → Bool → Option RunFault
+abbrev pub put_fault : DictView → Key → Bool → Option RunFault
 put_fault d k fits =
     refusal ((d.fixed, ReadOnly) ∷ (not fits, ValueOfAnotherType) ∷ (is_full d.pairs && is_none (value_at d.pairs k), TooLong) ∷ [])

@@ -19,9 +19,9 @@ pub struct TypedArray {
 
 impl Model for TypedArray {
     ghost use Rattle.std.specs.Prelude.{◌≤◌, length};
-    ghost use Rattle.gd_model.specs.Thing.{ArrayThing};
+    ghost use Rattle.gd_model.specs.View.{ArrayView};
 
-    ghost Value = { ArrayThing };
+    ghost Value = { ArrayView };
 
     ghost use Rattle.gd_model.specs.contracts.ty.Ty as ty;
     ghost use Rattle.std.specs.Coded.{codes};

@@ -3,7 +3,7 @@ ghost use Rattle.std.specs.Prelude.{◌≡◌, ◌+◌, ◌≤◌, ◌++◌, [],
 ghost use Rattle.std.specs.Map.Iter.{deref_pair};
 ghost use Rattle.std.specs.Option.{option_copied};
 ghost use Rattle.gd_model.specs.declared.ty.Ty.TheVariants.{Variant};
-ghost use Rattle.gd_model.specs.Thing.{value_at, pair_at, with_pair, without_key};
+ghost use Rattle.gd_model.specs.View.{value_at, pair_at, with_pair, without_key};
 ghost use Rattle.indexmap.specs.IndexMap.{index_map_len};
 
 use crate::{MAX_ITEMS, ThingFault};
@@ -27,9 +27,9 @@ pub struct OrderedDict {
 
 impl Model for OrderedDict {
     ghost use Rattle.std.specs.Prelude.{◌≤◌, length};
-    ghost use Rattle.gd_model.specs.Thing.{DictThing};
+    ghost use Rattle.gd_model.specs.View.{DictView};
 
-    ghost Value = { DictThing };
+    ghost Value = { DictView };
 
     ghost use Rattle.gd_model.specs.contracts.ty.Ty as ty;
     ghost use Rattle.std.specs.Coded.{codes};

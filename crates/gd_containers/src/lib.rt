@@ -4,6 +4,7 @@
 mod array;
 mod dict;
 mod fault;
+mod found;
 mod key;
 mod look;
 mod place;
@@ -13,6 +14,7 @@ mod tests;
 pub use array::TypedArray;
 pub use dict::OrderedDict;
 pub use fault::{MAX_ITEMS, ThingFault};
+pub use found::{array_of, class_name_of, class_of, dict_of};
 pub use key::key_of;
 pub use look::Look;
 pub use place::{clamped_place, gap_place, item_place};

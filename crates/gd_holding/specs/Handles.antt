@@ -2,9 +2,9 @@
 use Rattle.std.specs.Prelude.{Option, Some, None}
 use Rattle.slot_arena.specs.declared.handle.Handle.{Handle}
 use Rattle.gd_model.specs.declared.value.Value as value
-use Rattle.gd_model.specs.declared.value.Key as key
+use Rattle.gd_model.specs.declared.key.Key as key
 use Rattle.gd_model.specs.declared.value.Value.TheVariants as v
-use Rattle.gd_model.specs.declared.value.Key.TheVariants as k
+use Rattle.gd_model.specs.declared.key.Key.TheVariants as k
 
 -- the handle that a value holds: callables and signals hold nothing
 abbrev pub value_handle : value.Value → Option Handle

@@ -1,54 +1,46 @@
 -- When two keys of a dictionary are one key.
-use Rattle.std.specs.Prelude.{◌≡◌, Bool, true, false, ◌&&◌, nat_eq, refl}
-use Rattle.std.specs.Bool.{beq, Decides}
-use Rattle.std.specs.Cmp.{booleans_Decides, signed_Decides, unsigned_Decides}
-use Rattle.std.specs.Ordering.{int_eq}
-use Rattle.std.specs.Str.{bytes_eq}
-use Rattle.std.proofs.Common.{ap, subst, true≢false, sym}
+use Rattle.std.specs.Prelude.{◌≡◌, Bool, true, refl}
+use Rattle.std.specs.Bool.{Decides, one_answer}
+use Rattle.std.specs.Cmp.{IsEquivalence, booleans_Decides, signed_Decides, unsigned_Decides}
+use Rattle.std.proofs.Common.{ap, subst, sym}
 use Rattle.std.proofs.lemmas.Slice.Eq.{bytes_eq-Decides}
-use Rattle.slot_arena.specs.declared.handle.Handle.{Handle}
-use Rattle.gd_model.specs.declared.value.Key.{Key}
-use Rattle.gd_model.specs.declared.value.Key.TheVariants.{Nil, Bool as BoolKey, Int, Str, Object}
+use Rattle.gd_model.specs.declared.key.Key.{Key}
+use Rattle.gd_model.specs.declared.key.Key.TheVariants.{Nil, Bool as BoolKey, Int, Str, Object}
+use Rattle.gd_model.specs.Datum.{Datum, bool, int, text, object}
+use Rattle.gd_model.specs.KeyDatum.{key_datum}
+use Rattle.gd_model.specs.Same.{same_key}
 
--- the same kind and equal; objects are one key where their handles are one
-abbrev pub same_key : Key → Key → Bool
-same_key Nil Nil = true
-same_key (BoolKey a) (BoolKey b) = beq a b
-same_key (Int a) (Int b) = int_eq a b
-same_key (Str a) (Str b) = bytes_eq a b
-same_key (Object h) (Object i) = nat_eq h.index i.index && nat_eq h.serial i.serial
-same_key _ _ = false
+-- two keys of the code are one where they are one key of the language
+abbrev pub one_key : Key → Key → Bool
+one_key k l = same_key (key_datum k) (key_datum l)
 
-both : (a b : Bool) → (a && b) ≡ true → (a ≡ true) × (b ≡ true)
-both true b e = (refl, e)
-both false b e = absurd (true≢false (sym e))
-
-handles : (h i : Handle) → h.index ≡ i.index → h.serial ≡ i.serial → h ≡ i
-handles h i e f = λ k. record { index = e k; serial = f k }
-
-one_handle : (h i : Handle) → (nat_eq h.index i.index && nat_eq h.serial i.serial) ≡ true → h ≡ i
-one_handle h i e =
-    let parts = both _ _ e in
-    handles h i ((unsigned_Decides h.index i.index).0 parts.0) ((unsigned_Decides h.serial i.serial).0 parts.1)
-
-own_handle : (h : Handle) → (nat_eq h.index h.index && nat_eq h.serial h.serial) ≡ true
-own_handle h = λ k. ((unsigned_Decides h.index h.index).1 refl k) && ((unsigned_Decides h.serial h.serial).1 refl k)
-
-own_key : (a : Key) → same_key a a ≡ true
+own_key : (a : Key) → one_key a a ≡ true
 own_key Nil = refl
 own_key (BoolKey a) = (booleans_Decides a a).1 refl
 own_key (Int a) = (signed_Decides a a).1 refl
 own_key (Str a) = (bytes_eq-Decides a a).1 refl
-own_key (Object h) = own_handle h
+own_key (Object h) = (unsigned_Decides h.serial h.serial).1 refl
 
-one_key : (a b : Key) → same_key a b ≡ true → a ≡ b
-one_key Nil Nil e = refl
-one_key (BoolKey a) (BoolKey b) e = ap BoolKey ((booleans_Decides a b).0 e)
-one_key (Int a) (Int b) e = ap Int ((signed_Decides a b).0 e)
-one_key (Str a) (Str b) e = ap Str ((bytes_eq-Decides a b).0 e)
-one_key (Object h) (Object i) e = ap Object (one_handle h i e)
-one_key _ _ e = cc
+one_datum : (a b : Key) → one_key a b ≡ true → key_datum a ≡ key_datum b
+one_datum Nil Nil e = refl
+one_datum (BoolKey a) (BoolKey b) e = ap bool ((booleans_Decides a b).0 e)
+one_datum (Int a) (Int b) e = ap int ((signed_Decides a b).0 e)
+one_datum (Str a) (Str b) e = ap text ((bytes_eq-Decides a b).0 e)
+one_datum (Object h) (Object i) e = ap object ((unsigned_Decides h.serial i.serial).0 e)
+one_datum _ _ e = cc
 
--- the test answers yes for equal keys, and for no others
-pub same_key-Decides : (a b : Key) → Decides (same_key a b) (a ≡ b)
-same_key-Decides a b = (one_key a b, λ e. subst (λ (k : Key). same_key a k ≡ true) e (own_key a))
+-- the test answers yes for keys that are one, and for no others
+pub one_key-Decides : (a b : Key) → Decides (one_key a b) (key_datum a ≡ key_datum b)
+one_key-Decides a b = (one_datum a b, λ e. subst (λ d. same_key (key_datum a) d ≡ true) e (own_key a))
+
+-- a test that decides whether two values have one image is an equivalence
+module _ {K J : Type 0} (image : K → J) (test : J → J → Bool) (decides : (x y : K) → Decides (test (image x) (image y)) (image x ≡ image y)) where
+  decided_on : IsEquivalence (λ x y. test (image x) (image y))
+  decided_on = record {
+    refl = λ x. (decides x x).1 refl;
+    symm = λ x y. one_answer (test (image x) (image y)) (test (image y) (image x)) (decides x y) (λ e. sym ((decides y x).0 e), λ e. (decides y x).1 (sym e));
+    congr = λ x y z e. ap (λ w. test w (image z)) ((decides x y).0 e);
+  }
+
+pub one_key-equiv : IsEquivalence one_key
+one_key-equiv = decided_on key_datum same_key one_key-Decides

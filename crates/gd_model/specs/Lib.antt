@@ -1,7 +1,14 @@
+pub mod Datum
 pub mod Fault
 pub mod Key
-pub mod Thing
+pub mod KeyDatum
 pub mod KeyHash
+pub mod Meant
 pub mod Place
+pub mod Plain
 pub mod Refusal
+pub mod Same
+pub mod SameType
 pub mod Store
+pub mod View
+pub mod Whole

@@ -3,17 +3,21 @@
 
 mod event;
 mod fault;
+mod key;
 mod outcome;
+mod shared;
 mod ty;
 mod value;
 
 pub use event::Event;
 pub use fault::RunFault;
 pub use gd_rules::{Diag, Mark, Rule};
+pub use key::Key;
 pub use outcome::Outcome;
+pub use shared::Shared;
 use std::alloc::AllocError;
 pub use ty::{Fixed, FixedThing, Ty};
-pub use value::{Key, Target, Value};
+pub use value::{SignalSource, Target, Value};
 
 /// The answer for a case that a later proof will show impossible. Each call is a promise still owed.
 pub fn impossible() -> AllocError {

@@ -1,5 +1,6 @@
 //! The types of the language, and the values of constants.
 ghost use Rattle.std.specs.Prelude.{◌≡◌, ◌↔◌, IfOk, IsTrue};
+ghost use Rattle.gd_model.specs.SameType.{same_type};
 
 use gd_syntax::{Seq, Text};
 use no_memory::NoMemory;
@@ -33,11 +34,17 @@ pub enum Ty {
 impl Ty {
     /// Whether the two are one type.
     pub fn same(&self, other: &Ty) -> bool
+        ensures { result ≡ same_type self.now other.now }
+    {
+        self.is(other)
+    }
+
+    fn is(&self, other: &Ty) -> bool
         ensures { IsTrue result ↔ (self.now ≡ other.now) }
     {
         match (self, other) {
-            (Ty::DictOf(k, v), Ty::DictOf(l, w)) => k.get().same(l.get()) && v.get().same(w.get()),
-            (Ty::ArrayOf(t), Ty::ArrayOf(u)) => t.get().same(u.get()),
+            (Ty::DictOf(k, v), Ty::DictOf(l, w)) => k.get().is(l.get()) && v.get().is(w.get()),
+            (Ty::ArrayOf(t), Ty::ArrayOf(u)) => t.get().is(u.get()),
             (Ty::Class(c), Ty::Class(d)) => *c == *d,
             (Ty::Meta(c), Ty::Meta(d)) => *c == *d,
             (Ty::Variant, Ty::Variant) => true,

@@ -1,12 +1,13 @@
-//! Values, and the keys of dictionaries.
+//! Values at run time (docs/runtime.md, "Values").
 ghost use Rattle.std.specs.Prelude.{◌≡◌, IfOk};
+ghost use Rattle.gd_model.specs.Plain.{plain_copy};
 
+use crate::Shared;
 use gd_syntax::Text;
 use no_memory::NoMemory;
 use slot_arena::Handle;
-use std::hash::{Hash, Hasher};
 
-/// A value at run time.
+/// A value at run time. It takes 24 bytes: what is larger stands behind a pointer that its copies share.
 #[derive(Drop)]
 pub enum Value {
     Nil,
@@ -16,9 +17,8 @@ pub enum Value {
     Object(Handle),
     Array(Handle),
     Dict(Handle),
-    Callable(Target),
-    /// The emitter, and the signal's name.
-    Signal(Handle, Text),
+    Callable(Shared<Target>),
+    Signal(Shared<SignalSource>),
 }
 
 /// What a Callable calls: a function of an object, or a static function of a class.
@@ -29,8 +29,15 @@ pub struct Target {
     pub name: Text,
 }
 
+/// A signal: the object that emits it, and its name.
+#[derive(Drop)]
+pub struct SignalSource {
+    pub emitter: Handle,
+    pub name: Text,
+}
+
 impl Value {
-    /// The same value once more. Texts use the same characters.
+    /// The same value once more. Texts, targets and signals are shared, so nothing is allocated.
     pub fn share(&self) -> Result<Value, NoMemory>
         ensures { IfOk result (λ v. v ≡ self.now) }
     {
@@ -43,8 +50,24 @@ impl Value {
             Value::Array(handle) => Value::Array(*handle),
             Value::Dict(handle) => Value::Dict(*handle),
             Value::Callable(target) => Value::Callable(target.share()?),
-            Value::Signal(handle, name) => Value::Signal(*handle, name.share()?),
+            Value::Signal(source) => Value::Signal(source.share()?),
         })
+    }
+
+    /// The same value once more, of a value that shares nothing: it cannot fail. `None` exactly for a String, a Callable
+    /// and a Signal.
+    pub fn copied(&self) -> Option<Value>
+        ensures { result ≡ plain_copy self.now }
+    {
+        match self {
+            Value::Nil => Some(Value::Nil),
+            Value::Bool(b) => Some(Value::Bool(*b)),
+            Value::Int(n) => Some(Value::Int(*n)),
+            Value::Object(handle) => Some(Value::Object(*handle)),
+            Value::Array(handle) => Some(Value::Array(*handle)),
+            Value::Dict(handle) => Some(Value::Dict(*handle)),
+            Value::Str(_) | Value::Callable(_) | Value::Signal(_) => None,
+        }
     }
 }
 
@@ -58,77 +81,5 @@ impl Target {
             class: self.class,
             name: self.name.share()?,
         })
-    }
-}
-
-/// The key of a dictionary. Objects are keys by their identity.
-#[derive(Drop)]
-pub enum Key {
-    Nil,
-    Bool(bool),
-    Int(i64),
-    Str(Text),
-    Object(Handle),
-}
-
-impl Key {
-    /// The same key once more.
-    pub fn share(&self) -> Result<Key, NoMemory>
-        ensures { IfOk result (λ k. k ≡ self.now) }
-    {
-        Ok(match self {
-            Key::Nil => Key::Nil,
-            Key::Bool(b) => Key::Bool(*b),
-            Key::Int(n) => Key::Int(*n),
-            Key::Str(text) => Key::Str(text.share()?),
-            Key::Object(handle) => Key::Object(*handle),
-        })
-    }
-}
-
-impl PartialEq for Key {
-    ghost use Rattle.std.specs.Cmp.{decided, partial_equiv_from_equiv};
-    ghost use Rattle.gd_model.specs.Key.{same_key, same_key-Decides};
-
-    ghost eq = { same_key };
-
-    ghost laws = { partial_equiv_from_equiv (decided same_key same_key-Decides) };
-
-    fn eq(&self, other: &Key) -> bool {
-        match (self, other) {
-            (Key::Nil, Key::Nil) => true,
-            (Key::Bool(a), Key::Bool(b)) => *a == *b,
-            (Key::Int(a), Key::Int(b)) => *a == *b,
-            (Key::Str(a), Key::Str(b)) => *a == *b,
-            (Key::Object(a), Key::Object(b)) => a.index == b.index && a.serial == b.serial,
-            _ => false,
-        }
-    }
-}
-
-impl Eq for Key {
-    ghost use Rattle.std.specs.Cmp.{decided};
-    ghost use Rattle.gd_model.specs.Key.{same_key, same_key-Decides};
-
-    ghost laws = { decided same_key same_key-Decides };
-}
-
-impl Hash for Key {
-    ghost use Rattle.std.specs.Hash.{same_Alike};
-    ghost use Rattle.gd_model.specs.Key.{same_key-Decides};
-    ghost use Rattle.gd_model.specs.KeyHash.{key_hash_input};
-
-    ghost hash_input = { key_hash_input };
-
-    ghost respects_eq = { (same_Alike key_hash_input same_key-Decides).fed };
-
-    fn hash<H: Hasher>(&self, state: &mut H) {
-        match self {
-            Key::Nil => state.write_u8(0),
-            Key::Bool(b) => b.hash(state),
-            Key::Int(n) => n.hash(state),
-            Key::Str(text) => text.hash(state),
-            Key::Object(handle) => handle.serial.hash(state),
-        }
     }
 }

@@ -5,3 +5,4 @@ pub mod Pattern
 pub mod Reading
 pub mod Search
 pub mod Text
+pub mod Formatted

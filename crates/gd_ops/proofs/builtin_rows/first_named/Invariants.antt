@@ -1,7 +1,0 @@
-use Rattle.std.proofs.Common.{◌≡◌, drop, map}
-use Rattle.gd_ops.specs.BuiltinRows as spec
-use Rattle.gd_ops.proofs.builtin_rows.first_named.Given as goal
-
--- the search in the rows that are left gives what the whole search gives
-abbrev pub invariant-loop-row : goal.invariant-loop-row
-invariant-loop-row l = spec.first_named l.name (map spec.seen (drop l.row-index l.rows)) ≡ spec.first_named l.name (map spec.seen l.rows)

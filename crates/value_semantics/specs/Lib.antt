@@ -1,0 +1,16 @@
+pub mod Answer
+pub mod BuiltinRows
+pub mod Builtins
+pub mod Equality
+pub mod Formatting
+pub mod Functions
+pub mod Ints
+pub mod Kinds
+pub mod Made
+pub mod Methods
+pub mod OperatorRows
+pub mod Operators
+pub mod Parameters
+pub mod Printed
+pub mod Ranges
+pub mod Texts
