@@ -16,7 +16,7 @@ value_handle (v.Object h) = Some h
 value_handle (v.Array h) = Some h
 value_handle (v.Dict h) = Some h
 value_handle (v.Callable _) = None
-value_handle (v.Signal _ _) = None
+value_handle (v.Signal _) = None
 
 -- the handle that a key holds
 abbrev pub key_handle : key.Key → Option Handle
