@@ -1,12 +1,14 @@
 //! All connections of a run.
-ghost use Rattle.std.specs.Prelude.{◌≡◌, ◌++◌, [], ◌∷◌, pos, IfOk, OnErr, map, filter, not, nat_eq, if◌then◌else◌};
+ghost use Rattle.std.specs.Prelude.{◌≡◌, ◌++◌, [], ◌∷◌, ℕ, List, pos, nat_eq, IfOk, OnErr, OnOk, if◌then◌else◌};
 ghost use Rattle.std.specs.Ordering.{int_eq};
-ghost use Rattle.gd_signals.specs.Connections.{has_connection, may_connect, is_of, is_between};
+ghost use Rattle.gd_signals.specs.declared.connection.Connection.{Connection as TheConnection};
+ghost use Rattle.gd_signals.specs.Connections.{links, of_emitter, is_linked, may_connect, connected, without, changed_at, forgotten};
 
 use crate::connection::Connection;
-use crate::lists::{contains_between, remove_between, remove_of_emitter, targets_of};
-use gd_model::Target;
+use crate::lists::{contains_between, remove_between, targets_of};
+use gd_model::{Shared, Target};
 use gd_syntax::Text;
+use indexmap::IndexMap;
 use no_memory::NoMemory;
 use std::alloc::Global;
 use std::marker::Model;
@@ -17,94 +19,127 @@ pub const CONNECT_ONE_SHOT: i64 = 4;
 /// What `connect` answers where it refuses.
 pub const REFUSED: i64 = 31;
 
-/// The connections, in the order in which they were made.
+/// The connections of each emitter, in the order in which they were made. Each call takes the time of those of one
+/// emitter.
 #[derive(Drop)]
 pub struct Connections {
-    all: Vec<Connection>,
+    /// By the serial number of the emitter.
+    emitters: IndexMap<u64, Vec<Connection>>,
+    alloc: Global,
 }
 
 impl Model for Connections {
-    ghost use Rattle.std.specs.Prelude.{List};
-    ghost use Rattle.gd_signals.specs.declared.connection.Connection as connection;
+    ghost use Rattle.std.specs.Prelude.{map};
+    ghost use Rattle.gd_signals.specs.Connections.{Emitters};
     ghost use Rattle.gd_signals.specs.contracts.connection.Connection as the_connection;
     ghost use Rattle.std.specs.Coded.{codes};
 
-    ghost Value = { List connection.Connection };
+    ghost Value = { Emitters };
 
     ghost coded = { Prim.hlevel (codes, the_connection.the_row.coded) };
 
-    ghost view = { λ c. c.all.items };
+    ghost view = { λ c. map (λ e. (e.0, e.1.items)) c.emitters.entries };
 }
 
 impl Connections {
     /// No connections. It takes no memory.
     pub fn new(alloc: Global) -> Connections
-        ensures { result ≡ [] }
+        ensures { (e : ℕ) (s : List ℕ) → links result e s ≡ [] }
     {
         Connections {
-            all: Vec::new(alloc),
+            emitters: IndexMap::new(alloc),
+            alloc,
         }
     }
 
-    /// Adds a connection at the end and answers 0, or answers 31 where the flags are neither 0 nor 4 or the target is
-    /// connected already. After `NoMemory` nothing has changed.
+    /// Adds a target to the list of a signal and answers 0, or answers 31 where the flags are neither 0 nor 4 or the
+    /// target is in the list already. After `NoMemory` nothing has changed.
     pub fn connect(
         &mut self,
         emitter: u64,
         signal: &Text,
-        to: Target,
+        to: Shared<Target>,
         flags: i64,
     ) -> Result<i64, NoMemory>
-        ensures answer { IfOk result (λ n. n ≡ (if may_connect self.old emitter signal.now to flags then pos 0 else pos 31)) }
-        ensures added { IfOk result (λ _. self.new ≡ (if may_connect self.old emitter signal.now to flags then self.old ++ record { emitter = emitter; signal = signal.now; to = to; one_shot = int_eq flags (pos 4) } ∷ [] else self.old)) }
-        ensures refused { OnErr result (self.new ≡ self.old) }
+        ensures answer { IfOk result (λ n. n ≡ (if may_connect (links self.old emitter signal.now) to flags then pos 0 else pos 31)) }
+        ensures added { OnOk result ((e : ℕ) (s : List ℕ) → links self.new e s ≡ changed_at emitter signal.now (λ list. connected list to flags) self.old e s) }
+        ensures refused { OnErr result ((e : ℕ) (s : List ℕ) → links self.new e s ≡ links self.old e s) }
     {
         let one_shot = flags == CONNECT_ONE_SHOT;
-        if (flags != 0 && !one_shot) || self.is_connected(emitter, signal, &to) {
+        if (flags != 0 && !one_shot) || self.is_connected(emitter, signal, to.get()) {
             return Ok(REFUSED);
         }
-        self.all.push(Connection {
+        let signal = signal.share()?;
+        self.add(
             emitter,
-            signal: signal.share()?,
-            to,
-            one_shot,
-        })?;
+            Connection {
+                signal,
+                to,
+                one_shot,
+            },
+        )?;
         Ok(0)
     }
 
-    /// Removes a connection. Answers whether it was there.
+    /// Removes a target from the list of a signal. Answers whether it was there.
     pub fn disconnect(&mut self, emitter: u64, signal: &Text, to: &Target) -> bool
-        ensures answer { result ≡ has_connection self.old emitter signal.now to.now }
-        ensures removed { self.new ≡ filter (λ c. not (is_between emitter signal.now to.now c)) self.old }
+        ensures answer { result ≡ is_linked to.now (links self.old emitter signal.now) }
+        ensures removed { (e : ℕ) (s : List ℕ) → links self.new e s ≡ changed_at emitter signal.now (without to.now) self.old e s }
     {
         let was = self.is_connected(emitter, signal, to);
-        remove_between(&mut self.all, emitter, signal, to);
+        if let Some(all) = self.emitters.get_mut(&emitter) {
+            remove_between(all, signal, to);
+        }
         was
     }
 
-    /// Whether a target is connected to a signal.
+    /// Whether a target is in the list of a signal.
     pub fn is_connected(&self, emitter: u64, signal: &Text, to: &Target) -> bool
-        ensures { result ≡ has_connection self.now emitter signal.now to.now }
+        ensures { result ≡ is_linked to.now (links self.now emitter signal.now) }
     {
-        contains_between(self.all.as_slice(), emitter, signal, to)
+        contains_between(self.of(emitter), signal, to)
     }
 
-    /// The targets of a signal as an emission begins, in order, each with whether it goes with its first call.
+    /// The list of a signal as an emission begins: each target with whether it goes with its first call.
     pub fn begin_emit(
         &self,
         alloc: Global,
         emitter: u64,
         signal: &Text,
-    ) -> Result<Vec<(Target, bool)>, NoMemory>
-        ensures { IfOk result (λ v. v.items ≡ map (λ c. (c.to, c.one_shot)) (filter (is_of emitter signal.now) self.now)) }
+    ) -> Result<Vec<(Shared<Target>, bool)>, NoMemory>
+        ensures { IfOk result (λ v. v.items ≡ links self.now emitter signal.now) }
     {
-        targets_of(alloc, self.all.as_slice(), emitter, signal)
+        targets_of(alloc, self.of(emitter), signal)
     }
 
-    /// Removes all connections of an emitter.
+    /// Empties all lists of an emitter.
     pub fn forget(&mut self, emitter: u64)
-        ensures { self.new ≡ filter (λ c. not (nat_eq c.emitter emitter)) self.old }
+        ensures { (e : ℕ) (s : List ℕ) → links self.new e s ≡ forgotten emitter self.old e s }
     {
-        remove_of_emitter(&mut self.all, emitter);
+        self.emitters.swap_remove(&emitter);
+    }
+
+    // The connections of an emitter.
+    fn of(&self, emitter: u64) -> &[Connection]
+        ensures { result.now ≡ of_emitter self.now emitter }
+    {
+        match self.emitters.get(&emitter) {
+            Some(all) => all.as_slice(),
+            None => &[],
+        }
+    }
+
+    // Adds a connection at the end of those of its emitter. After `NoMemory` nothing has changed.
+    fn add(&mut self, emitter: u64, connection: Connection) -> Result<(), NoMemory>
+        ensures added { OnOk result ((e : ℕ) → of_emitter self.new e ≡ (if nat_eq emitter e then of_emitter self.old e ++ connection ∷ [] else of_emitter self.old e)) }
+        ensures refused { OnErr result ((e : ℕ) → of_emitter self.new e ≡ of_emitter self.old e) }
+    {
+        if let Some(all) = self.emitters.get_mut(&emitter) {
+            return Ok(all.push(connection)?);
+        }
+        let mut first = Vec::new(self.alloc);
+        first.push(connection)?;
+        self.emitters.insert(emitter, first)?;
+        Ok(())
     }
 }

@@ -1,6 +1,6 @@
 //! What connects, what is refused, and what an emission calls.
 use super::*;
-use gd_model::Target;
+use gd_model::{Shared, Target};
 use gd_syntax::{Text, TextFault};
 use slot_arena::Handle;
 use std::alloc::Global;
@@ -10,12 +10,13 @@ fn text(alloc: Global, chars: &str) -> Result<Text, TextFault> {
     Text::from_utf8(alloc, chars.as_bytes())
 }
 
-fn on_object(alloc: Global, serial: u64, name: &str) -> Result<Target, TextFault> {
-    Ok(Target {
+fn on_object(alloc: Global, serial: u64, name: &str) -> Result<Shared<Target>, Fail> {
+    let target = Target {
         object: Some(Handle { index: 0, serial }),
         class: 0,
         name: text(alloc, name)?,
-    })
+    };
+    Ok(Shared::new(alloc, target)?)
 }
 
 #[test]
@@ -42,8 +43,8 @@ fn connects_once(rt: HostRuntime) -> Result<(), Fail> {
         );
     }
     assert_eq!(rt; all.connect(8, &signal, on_object(alloc, 1, "f")?, 0)?, 0);
-    assert!(rt; all.is_connected(9, &signal, &on_object(alloc, 1, "f")?));
-    assert!(rt; !all.is_connected(9, &signal, &on_object(alloc, 1, "g")?));
+    assert!(rt; all.is_connected(9, &signal, on_object(alloc, 1, "f")?.get()));
+    assert!(rt; !all.is_connected(9, &signal, on_object(alloc, 1, "g")?.get()));
     Ok(())
 }
 
@@ -56,11 +57,11 @@ fn emits_in_order(rt: HostRuntime) -> Result<(), Fail> {
         let to = on_object(alloc, object, "f")?;
         assert_eq!(rt; all.connect(9, &signal, to, flags)?, 0);
     }
-    assert!(rt; all.disconnect(9, &signal, &on_object(alloc, 2, "f")?));
-    assert!(rt; !all.disconnect(9, &signal, &on_object(alloc, 2, "f")?));
+    assert!(rt; all.disconnect(9, &signal, on_object(alloc, 2, "f")?.get()));
+    assert!(rt; !all.disconnect(9, &signal, on_object(alloc, 2, "f")?.get()));
     let targets = all.begin_emit(alloc, 9, &signal)?;
     for ((target, one_shot), (serial, once)) in targets.iter().zip([(1, true), (3, false)]) {
-        assert_eq!(rt; target.object.map(|h| h.serial), Some(serial));
+        assert_eq!(rt; target.get().object.map(|h| h.serial), Some(serial));
         assert_eq!(rt; *one_shot, once);
     }
     assert_eq!(rt; targets.len(), 2);

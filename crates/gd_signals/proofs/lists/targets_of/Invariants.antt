@@ -8,5 +8,5 @@ use Rattle.gd_signals.proofs.lists.targets_of.Given as goal
 -- the targets so far and those of the connections that are left are all
 abbrev pub invariant-loop-c : goal.invariant-loop-c
 invariant-loop-c l =
-    l.targets.items ++ map (λ (c : Connection). (c.to, c.one_shot)) (filter (is_of l.emitter l.signal) (drop l.c-index l.all))
-    ≡ map (λ (c : Connection). (c.to, c.one_shot)) (filter (is_of l.emitter l.signal) l.all)
+    l.targets.items ++ map (λ (c : Connection). (c.to, c.one_shot)) (filter (is_of l.signal) (drop l.c-index l.all))
+    ≡ map (λ (c : Connection). (c.to, c.one_shot)) (filter (is_of l.signal) l.all)
