@@ -7,7 +7,7 @@ ghost use Rattle.gd_text.specs.Text.{Gives};
 use crate::made::{append, made};
 use crate::pattern::{Piece, pieces};
 use crate::printed::{put_shown, takes};
-use gd_syntax::{Text, TextFault};
+use gd_syntax::{Text, TextBuilder, TextFault};
 use std::alloc::Global;
 use thiserror::Error;
 
@@ -95,7 +95,7 @@ fn text_of(alloc: Global, pieces: &[Piece], args: &[Arg]) -> Result<Text, TextFa
     requires { spec.all_fit pieces.now args.now ≡ true }
     ensures { Gives (Some (spec.text_of pieces.now args.now)) result }
 {
-    let mut out = Vec::new(alloc);
+    let mut out = TextBuilder::new(alloc);
     let mut next = 0;
     for piece in pieces {
         match piece {

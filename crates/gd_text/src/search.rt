@@ -3,7 +3,7 @@ ghost use Rattle.std.specs.Prelude.{◌≡◌, ◌+◌, ◌≤◌, ◌<◌, Some
 ghost use Rattle.gd_text.specs.Text.{Gives, GivesList};
 ghost use Rattle.gd_text.specs.Search as spec;
 
-use crate::made::{append, copied, made};
+use crate::made::{append, copied, made, room, shared};
 use gd_syntax::{MAX_TEXT, Text, TextFault};
 use std::alloc::Global;
 
@@ -43,9 +43,9 @@ pub fn replace(alloc: Global, a: &Text, what: &Text, with: &Text) -> Result<Text
 {
     let (chars, what, with) = (a.chars(), what.chars(), with.chars());
     if what.is_empty() {
-        return copied(alloc, chars);
+        return shared(a);
     }
-    let mut out = Vec::new(alloc);
+    let mut out = room(alloc, chars.len())?;
     let mut start = 0;
     while let Some(at) = find_from(chars, what, start) {
         append(&mut out, &chars[start..at])?;

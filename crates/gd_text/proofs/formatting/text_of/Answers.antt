@@ -47,25 +47,23 @@ loop-piece-preserved c =
     elim c.match-piece.branch [
       | in-Plain+in_ok-append-in-Plain w ↦
           let first = at_front ps i (Plain w.in-Plain.c) _ c.loop-piece-test.true w.in-Plain.is in
-          let out = ap (λ v. v.items) w.out-is ∙ w.in_ok-append-in-Plain.ensures.ok in
+          let out = w.out-is ∙ w.in_ok-append-in-Plain.ensures.ok in
           let left = ap (λ n. drop n c.args.args.now) w.next-is in
           record {
-            short = search rules;
             within = omega arith;
             fit = ap (λ (bs : List Arg). all_fit (drop (i + 1) ps) bs) left ∙ plain_fit _ _ _ _ first known.fit;
-            rest = plain_text _ _ _ _ _ _ _ first known.rest out ∙ ap (λ (bs : List Arg). c.match-piece.out.items ++ text_of (drop (i + 1) ps) bs) (sym left);
+            rest = plain_text _ _ _ _ _ _ _ first known.rest out ∙ ap (λ (bs : List Arg). c.match-piece.out ++ text_of (drop (i + 1) ps) bs) (sym left);
           }
       | in-Shown+in_ok-put_shown-in-Shown w ↦
           let first = at_front ps i (Shown w.in-Shown.conversion) _ c.loop-piece-test.true w.in-Shown.is in
           let some : 0 < length (drop c.loop-piece.next c.args.args.now) = has_argument _ _ _ _ first known.fit in
           let lt : c.loop-piece.next < length c.args.args.now = omega (arith, length-drop c.loop-piece.next c.args.args.now) in
           let arg = at_front c.args.args.now c.loop-piece.next w.index-args-next.result _ lt (sym w.index-args-next.is) in
-          let out = ap (λ v. v.items) w.out-is ∙ w.in_ok-put_shown-in-Shown.ensures.0 in
+          let out = w.out-is ∙ w.in_ok-put_shown-in-Shown.ensures.0 in
           let left = ap (λ n. drop n c.args.args.now) w.next-is in
           record {
-            short = search rules;
             within = omega arith;
             fit = ap (λ (bs : List Arg). all_fit (drop (i + 1) ps) bs) left ∙ shown_fit _ _ _ _ _ _ first arg known.fit;
-            rest = shown_text _ _ _ _ _ _ _ _ _ first arg known.rest out ∙ ap (λ (bs : List Arg). c.match-piece.out.items ++ text_of (drop (i + 1) ps) bs) (sym left);
+            rest = shown_text _ _ _ _ _ _ _ _ _ first arg known.rest out ∙ ap (λ (bs : List Arg). c.match-piece.out ++ text_of (drop (i + 1) ps) bs) (sym left);
           }
     ]

@@ -4,8 +4,7 @@ use Rattle.gd_text.proofs.formatting.text_of.Given as goal
 
 abbrev pub invariant-loop-piece : goal.invariant-loop-piece
 invariant-loop-piece l = record {
-  short : length l.out.items ≤ 16777216;
   within : l.next ≤ length l.args;
   fit : all_fit (drop l.piece-index l.pieces) (drop l.next l.args) ≡ true;
-  rest : text_of l.pieces l.args ≡ l.out.items ++ text_of (drop l.piece-index l.pieces) (drop l.next l.args);
+  rest : text_of l.pieces l.args ≡ l.out ++ text_of (drop l.piece-index l.pieces) (drop l.next l.args);
 }
