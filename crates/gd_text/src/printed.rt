@@ -147,7 +147,7 @@ fn put_parts(
 }
 
 /// Puts the characters.
-fn put(out: &mut TextBuilder, more: &[char]) -> Result<(), TextFault>
+pub fn put(out: &mut TextBuilder, more: &[char]) -> Result<(), TextFault>
     ensures { Puts more.now out.old out.new result }
 {
     out.append(more)

@@ -80,7 +80,7 @@ fn single_characters(alloc: Global, chars: &[char]) -> Result<Vec<Text>, TextFau
     requires { length chars.now ≤ MAX_TEXT }
     ensures { GivesList (spec.single_characters chars.now) result }
 {
-    let mut parts = Vec::new(alloc);
+    let mut parts = Vec::with_capacity(alloc, chars.len())?;
     for i in 0..chars.len() {
         add_part(&mut parts, alloc, &chars[i..i + 1], true)?;
     }

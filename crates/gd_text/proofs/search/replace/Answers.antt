@@ -1,8 +1,8 @@
-use Rattle.std.proofs.Common.{◌≡◌, ℕ, ◌+◌, ◌<◌, drop, slice_range, Bool, false, cond, List, [], length, ◌++◌, ◌==◌, sym, ap, ◌∙◌, subst, append_assoc, append-nil, arith}
+use Rattle.std.proofs.Common.{◌≡◌, ℕ, ◌+◌, ◌<◌, drop, slice_range, Bool, false, cond, List, [], length, ◌++◌, ◌==◌, sym, ap, ◌∙◌, subst, append-nil, arith}
 use Rattle.std.proofs.lemmas.Bool.Decides.{nat_tests}
 use Rattle.gd_text.specs.Search.{joined, parts, replaced}
 use Rattle.gd_text.proofs.Places.{replaced_step, replaced_end}
-use Rattle.gd_text.proofs.Refusals.{refused-Gives, passed_on, Gives-same}
+use Rattle.gd_text.proofs.Refusals.{refused-Gives, passed_on, Gives-same, after_piece}
 use Rattle.gd_text.proofs.search.replace.Goals as goal
 
 -- `replaced`, of a text that stands somewhere
@@ -13,9 +13,6 @@ replaced-joined xs us ws a what with e f g h =
 
 some : (n : ℕ) → false ≡ (n == 0) → 0 < n
 some n h = grind (arith, nat_tests)
-
-after_piece : (whole out piece more new : List ℕ) → new ≡ out ++ piece → whole ≡ out ++ (piece ++ more) → whole ≡ new ++ more
-after_piece whole out piece more new e w = w ∙ sym (append_assoc out piece more) ∙ ap (λ xs. xs ++ more) (sym e)
 
 pub returns-in_err-append : goal.returns-in_err-append
 returns-in_err-append c =
