@@ -305,25 +305,18 @@ unfolding read_piece
 piece_sound [] p n h = cc
 piece_sound (c ∷ cs) p n h = piece_one c cs p n _ refl h
 
-nothing_read : ◌≡◌ {A = Option (Piece × ℕ)} (read_piece []) None
+pub nothing_read : ◌≡◌ {A = Option (Piece × ℕ)} (read_piece []) None
 unfolding read_piece
 nothing_read = refl
 
 -- the piece that a pattern begins with is the one that is read there, and the rest of the pattern follows it
-pub goes_on : (ps : List Piece) (a : List ℕ) (p : Piece) (n : ℕ) → IsPattern ps a → read_piece a ≡ Some (p, n) → (qs : List Piece) × (ps ≡ p ∷ qs) × IsPattern qs (drop n a)
+goes_on : (ps : List Piece) (a : List ℕ) (p : Piece) (n : ℕ) → IsPattern ps a → read_piece a ≡ Some (p, n) → (qs : List Piece) × (ps ≡ p ∷ qs) × IsPattern qs (drop n a)
 goes_on [] a p n is h = let wrong : read_piece a ≡ None = ap read_piece is ∙ nothing_read in cc
 goes_on (q ∷ qs) a p n is h =
     let read : read_piece a ≡ Some (q, length is.0) = ap read_piece is.2 ∙ piece_read q is.0 is.1 is.3 in
     let same = pair_of q p (length is.0) n (sym read ∙ h) in
     let left : drop n a ≡ is.1 = ap (drop n) is.2 ∙ drop_at is.0 is.1 n same.1 in
     (qs, ap (λ (r : Piece). r ∷ qs) same.0, subst (IsPattern qs) (sym left) is.4)
-
--- where no piece is read, no pattern stands but the empty one
-pub stops : (ps : List Piece) (a : List ℕ) → 0 < length a → read_piece a ≡ None → IsPattern ps a → ⊥
-stops [] a some h is = let len : length a ≡ 0 = ap length is in omega arith
-stops (q ∷ qs) a some h is =
-    let read : read_piece a ≡ Some (q, length is.0) = ap read_piece is.2 ∙ piece_read q is.0 is.1 is.3 in
-    cc
 
 -- a piece that is read goes before the pieces that make the rest
 pub goes_before : (ps : List Piece) (a : List ℕ) (p : Piece) (n : ℕ) → read_piece a ≡ Some (p, n) → IsPattern ps (drop n a) → IsPattern (p ∷ ps) a

@@ -1,9 +1,9 @@
 -- Why a text or a list is too long.
-use Rattle.std.proofs.Common.{◌≡◌, ℕ, zero, suc, get_or, ◌+◌, ◌<◌, ◌≤◌, Bool, true, false, cond, List, [], ◌∷◌, ◌++◌, length, filter, Some, Result, Ok, Err, IsErrAnd, ◌⊎◌, inl, inr, refl, sym, ap, ◌∙◌, subst, length-append, arith}
+use Rattle.std.proofs.Common.{◌≡◌, ℕ, zero, suc, get_or, ◌+◌, ◌<◌, ◌≤◌, Bool, true, false, cond, List, [], ◌∷◌, ◌++◌, length, filter, Some, Result, Ok, Err, IsErrAnd, ◌⊎◌, inl, inr, refl, sym, ap, ◌∙◌, subst, length-append, append_assoc, arith}
 use Rattle.gd_syntax.specs.declared.text.TextFault.{TextFault}
 use Rattle.gd_syntax.specs.declared.text.TextFault.TheVariants.{NotUtf8, TooLong, OutOfRange, NoMemory}
 use Rattle.std.proofs.Common.{Vec, Global}
-use Rattle.gd_text.specs.Text.{Gives, GivesList}
+use Rattle.gd_text.specs.Text.{Gives, GivesList, Puts}
 use Rattle.gd_text.specs.Search.{AddsPart, is_kept}
 
 -- `append` was refused, with `rest` still to come
@@ -16,6 +16,21 @@ refused-Gives r e out more rest whole is (inl h) w =
     omega (arith, h.1) in
     subst (λ x. Gives (Some whole) x) (sym (is ∙ ap Err h.0)) long
 refused-Gives r e out more rest whole is (inr h) w = subst (λ x. Gives (Some whole) x) (sym (is ∙ ap Err h)) tt
+
+-- putting was refused, with `rest` still to come
+pub refused_put : (r : Result (List ℕ) TextFault) (e : TextFault) (more old new rest whole : List ℕ) → r ≡ Err e → Puts more old new (Err e) → whole ≡ old ++ (more ++ rest) → Gives (Some whole) r
+refused_put r TooLong more old new rest whole is long w =
+    let h : 16777216 < length old + length more = long in
+    let l : length whole ≡ length (old ++ (more ++ rest)) = ap length w in
+    let far : 16777216 < length whole = omega (arith, length-append old (more ++ rest), length-append more rest) in
+    subst (λ x. Gives (Some whole) x) (sym is) far
+refused_put r NoMemory more old new rest whole is h w = subst (λ x. Gives (Some whole) x) (sym is) tt
+refused_put r NotUtf8 more old new rest whole is h w = absurd h
+refused_put r OutOfRange more old new rest whole is h w = absurd h
+
+-- a piece went to the end, and `more` is still to come
+pub after_piece : (whole out piece more new : List ℕ) → new ≡ out ++ piece → whole ≡ out ++ (piece ++ more) → whole ≡ new ++ more
+after_piece whole out piece more new e w = w ∙ sym (append_assoc out piece more) ∙ ap (λ xs. xs ++ more) (sym e)
 
 pub Gives-same : (xs ys : List ℕ) (r : Result (List ℕ) TextFault) → ys ≡ xs → Gives (Some xs) r → Gives (Some ys) r
 Gives-same xs ys r e h = subst (λ zs. Gives (Some zs) r) (sym e) h

@@ -14,7 +14,9 @@ use Rattle.gd_text.specs.declared.formatting.Arg.{Arg}
 use Rattle.gd_text.specs.declared.formatting.Arg.TheVariants.{Num, Str, Other}
 use Rattle.gd_text.specs.declared.formatting.FormatFault.{FormatFault}
 use Rattle.gd_text.specs.declared.formatting.FormatFault.TheVariants.{BadFormat, TooLong, NoMemory}
+use Rattle.std.specs.Option.{option_map_or}
 use Rattle.gd_text.specs.Pattern.{IsPattern}
+use Rattle.gd_text.specs.Reading.{pieces_of}
 
 -- the character with this code
 abbrev pub character : ℤ → Option ℕ
@@ -100,6 +102,30 @@ text_of [] args = []
 text_of (Plain c ∷ ps) args = c ∷ text_of ps args
 text_of (Shown c ∷ ps) [] = []
 text_of (Shown c ∷ ps) (a ∷ args) = shown c a ++ text_of ps args
+
+-- the arguments that are left behind a piece, if it takes what it is given
+abbrev pub left_by : Piece → List Arg → Option (List Arg)
+left_by (Plain c) args = Some args
+left_by (Shown c) [] = None
+left_by (Shown c) (a ∷ args) = if takes c.letter a then Some args else None
+
+-- the text of one piece
+abbrev pub piece_text : Piece → List Arg → List ℕ
+piece_text (Plain c) args = c ∷ []
+piece_text (Shown c) [] = []
+piece_text (Shown c) (a ∷ args) = shown c a
+
+-- the pattern is one, and its conversions take the arguments
+abbrev pub fits : List ℕ → List Arg → Bool
+fits a args = option_map_or (λ (ps : List Piece). all_fit ps args) (pieces_of a) false
+
+-- the text of the pattern with arguments that fit it
+abbrev pub text_with : List ℕ → List Arg → List ℕ
+text_with a args = option_map_or (λ (ps : List Piece). text_of ps args) (pieces_of a) []
+
+-- the text that the pattern gives with the arguments: none where it is no pattern, or they do not fit it
+abbrev pub formatted : List ℕ → List Arg → Option (List ℕ)
+formatted a args = if fits a args then Some (text_with a args) else None
 
 -- the pattern gives this text with the arguments
 pub record IsFormatted (pattern : List ℕ) (args : List Arg) (t : List ℕ) : Type 0 where

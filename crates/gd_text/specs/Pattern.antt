@@ -1,6 +1,5 @@
 -- The grammar of patterns. A pattern is the list of its code points.
-use Rattle.std.specs.Prelude.{◌≡◌, ℕ, ◌≤◌, Bool, true, ◌||◌, ◌==◌, List, [], ◌∷◌, ◌++◌, length, count_by, Option, None, Some, if◌then◌else◌, Vec}
-use Rattle.std.specs.declared.alloc.Global.{Global}
+use Rattle.std.specs.Prelude.{◌≡◌, ℕ, ◌≤◌, Bool, true, ◌||◌, ◌==◌, List, [], ◌∷◌, ◌++◌, length, count_by, Some, if◌then◌else◌}
 use Rattle.std.specs.Char.{is_ascii_digit}
 use Rattle.std.specs.List.{list_all, slice_get}
 use Rattle.gd_text.specs.Number.{digits_value}
@@ -58,8 +57,3 @@ IsWritten (Shown c) written = IsConversion c written
 abbrev pub IsPattern : List Piece → List ℕ → Type 0
 IsPattern [] a = a ≡ []
 IsPattern (p ∷ ps) a = (written : List ℕ) × (rest : List ℕ) × (a ≡ written ++ rest) × IsWritten p written × IsPattern ps rest
-
--- what reading a pattern answers: its pieces, or nothing where no pieces make it
-abbrev pub ReadsPattern : List ℕ → Option (Vec Piece Global) → Type 0
-ReadsPattern a (Some ps) = IsPattern ps.items a
-ReadsPattern a None = (ps : List Piece) → IsPattern ps a → ⊥

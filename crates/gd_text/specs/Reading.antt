@@ -1,5 +1,5 @@
 -- How a pattern is read from left to right: each piece takes the longest run of flags, then that of digits, then a letter.
-use Rattle.std.specs.Prelude.{ℕ, ◌+◌, Bool, ◌||◌, ◌==◌, nat_lt, List, [], ◌∷◌, length, take, drop, slice_index, Option, None, Some, option_map, option_and_then, if◌then◌else◌}
+use Rattle.std.specs.Prelude.{ℕ, zero, suc, ◌+◌, ◌-◌, Bool, ◌||◌, ◌==◌, nat_lt, List, [], ◌∷◌, length, take, drop, slice_index, Option, None, Some, option_map, option_and_then, if◌then◌else◌}
 use Rattle.std.specs.Char.{is_ascii_digit}
 use Rattle.std.specs.List.{prefix_len, slice_get}
 use Rattle.gd_text.specs.Number.{digits_value}
@@ -51,3 +51,12 @@ read_behind cs = if slice_index cs 0 == 37 then Some (Plain 37, 1) else option_m
 unfoldable pub read_piece : List ℕ → Option (Piece × ℕ)
 read_piece [] = None
 read_piece (c ∷ cs) = if c == 37 then option_map (λ (p : Piece × ℕ). (p.0, p.1 + 1)) (read_behind cs) else Some (Plain c, 1)
+
+-- the pieces of a pattern, if it is one; `skip` characters are still to be passed over
+abbrev pub pieces_after : ℕ → List ℕ → Option (List Piece)
+pieces_after skip [] = Some []
+pieces_after (suc skip) (c ∷ cs) = pieces_after skip cs
+pieces_after zero (c ∷ cs) = option_and_then (λ (p : Piece × ℕ). option_map (λ (ps : List Piece). p.0 ∷ ps) (pieces_after (p.1 - 1) cs)) (read_piece (c ∷ cs))
+
+abbrev pub pieces_of : List ℕ → Option (List Piece)
+pieces_of a = pieces_after 0 a

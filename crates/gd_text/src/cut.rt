@@ -3,7 +3,7 @@ ghost use Rattle.std.specs.Prelude.{◌≡◌, ◌≤◌, ◌<◌, Some, length,
 ghost use Rattle.gd_text.specs.Text as spec;
 ghost use Rattle.gd_text.specs.Text.{Gives};
 
-use crate::made::copied;
+use crate::made::{copied, shared};
 use gd_syntax::{Text, TextFault};
 use std::alloc::Global;
 
@@ -14,6 +14,9 @@ pub fn substr(alloc: Global, a: &Text, from: i64, len: i64) -> Result<Text, Text
 {
     if from < 0 {
         return Err(TextFault::OutOfRange);
+    }
+    if from == 0 && len < 0 {
+        return shared(a);
     }
     let chars = a.chars();
     let first = chars.len().min(from as usize);
@@ -34,6 +37,9 @@ pub fn left(alloc: Global, a: &Text, n: i64) -> Result<Text, TextFault>
     } else {
         chars.len().min(n as usize)
     };
+    if end == chars.len() {
+        return shared(a);
+    }
     copied(alloc, &chars[..end])
 }
 
@@ -47,6 +53,9 @@ pub fn right(alloc: Global, a: &Text, n: i64) -> Result<Text, TextFault>
     } else {
         chars.len().saturating_sub(n as usize)
     };
+    if first == 0 {
+        return shared(a);
+    }
     copied(alloc, &chars[first..])
 }
 

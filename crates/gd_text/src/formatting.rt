@@ -1,13 +1,13 @@
 //! Texts from patterns (docs/runtime.md, "Formatting").
-ghost use Rattle.std.specs.Prelude.{◌≡◌, ◌≤◌, ◌<◌, ◌⊎◌, true, Some, length};
+ghost use Rattle.std.specs.Prelude.{◌≡◌, ◌≤◌, ◌<◌, ◌⊎◌, true, None, Some, length, IsSome, IfSome, IfNone};
 ghost use Rattle.gd_text.specs.Format as spec;
 ghost use Rattle.gd_text.specs.Format.{Formats};
-ghost use Rattle.gd_text.specs.Text.{Gives};
+ghost use Rattle.gd_text.specs.Text.{Gives, Puts};
 
-use crate::made::{append, made};
-use crate::pattern::{Piece, pieces};
-use crate::printed::{put_shown, takes};
-use gd_syntax::{Text, TextFault};
+use crate::made::made;
+use crate::pattern::{Piece, read_piece};
+use crate::printed::{put, put_shown, takes};
+use gd_syntax::{MAX_TEXT, Text, TextBuilder, TextFault};
 use std::alloc::Global;
 use thiserror::Error;
 
@@ -42,18 +42,16 @@ pub enum FormatFault {
 
 /// The text that the pattern gives with the arguments. `BadFormat` exactly where the pattern is none or the arguments
 /// do not fit it, then `TooLong` exactly where the text passes the limit.
+#[tactic(auto, using(crate::proofs::Formatted::formatted_fits, crate::proofs::Formatted::made_formatted))]
 pub fn format(alloc: Global, pattern: &Text, args: &[Arg]) -> Result<Text, FormatFault>
     ensures { Formats pattern.now args.now result }
 {
-    let pieces = match pieces(alloc, pattern.chars()) {
-        Ok(Some(pieces)) => pieces,
-        Ok(None) => return Err(FormatFault::BadFormat),
-        Err(_) => return Err(FormatFault::NoMemory),
-    };
-    if !all_fit(pieces.as_slice(), args) {
+    let chars = pattern.chars();
+    // The pattern is read twice: a bad format goes before a text that is too long.
+    if !fits(chars, args) {
         return Err(FormatFault::BadFormat);
     }
-    match text_of(alloc, pieces.as_slice(), args) {
+    match text_with(alloc, chars, args) {
         Ok(text) => Ok(text),
         Err(fault) => Err(passed_on(fault)),
     }
@@ -71,40 +69,78 @@ fn passed_on(fault: TextFault) -> FormatFault
     }
 }
 
-/// Whether there is an argument for each conversion, of a kind that it takes, and no more.
-fn all_fit(pieces: &[Piece], args: &[Arg]) -> bool
-    ensures { result ≡ spec.all_fit pieces.now args.now }
+/// Whether the pattern is one, and there is an argument for each conversion, of a kind that it takes, and no more.
+#[tactic(auto, using(crate::proofs::Formatted::fits_behind, crate::proofs::Formatted::fits_no_piece, crate::proofs::Formatted::fits_no_pattern))]
+fn fits(chars: &[char], args: &[Arg]) -> bool
+    requires { length chars.now ≤ MAX_TEXT }
+    ensures { result ≡ spec.fits chars.now args.now }
 {
-    let mut next = 0;
-    for piece in pieces {
-        if let Piece::Shown(conversion) = piece {
-            let Some(arg) = args.get(next) else {
-                return false;
-            };
-            if !takes(conversion.letter, arg) {
-                return false;
-            }
-            next += 1;
-        }
+    let (mut rest, mut left) = (chars, args);
+    while !rest.is_empty() {
+        let Some((piece, read)) = read_piece(rest) else {
+            return false;
+        };
+        let Some(more) = left_by(&piece, left) else {
+            return false;
+        };
+        left = more;
+        rest = &rest[read..];
     }
-    next == args.len()
+    left.is_empty()
 }
 
-/// The text that the pieces give with arguments that fit.
-fn text_of(alloc: Global, pieces: &[Piece], args: &[Arg]) -> Result<Text, TextFault>
-    requires { spec.all_fit pieces.now args.now ≡ true }
-    ensures { Gives (Some (spec.text_of pieces.now args.now)) result }
+/// The arguments that are left behind the piece, if it takes what it is given.
+fn left_by<'a>(piece: &Piece, args: &'a [Arg]) -> Option<&'a [Arg]>
+    ensures some { IfSome result (λ more. spec.left_by piece.now args.now ≡ Some more.now) }
+    ensures none { IfNone result (spec.left_by piece.now args.now ≡ None) }
 {
-    let mut out = Vec::new(alloc);
-    let mut next = 0;
-    for piece in pieces {
-        match piece {
-            Piece::Plain(c) => append(&mut out, &[*c])?,
-            Piece::Shown(conversion) => {
-                put_shown(alloc, &mut out, conversion, &args[next])?;
-                next += 1;
-            }
-        }
+    match piece {
+        Piece::Plain(_) => Some(args),
+        Piece::Shown(conversion) => match args {
+            [arg, more @ ..] if takes(conversion.letter, arg) => Some(more),
+            _ => None,
+        },
+    }
+}
+
+/// The text that the pattern gives with arguments that fit it.
+#[tactic(auto, using(crate::proofs::Formatted::fits_behind, crate::proofs::Formatted::fits_no_piece, crate::proofs::Formatted::fits_no_pattern, crate::proofs::Formatted::text_behind))]
+fn text_with(alloc: Global, chars: &[char], args: &[Arg]) -> Result<Text, TextFault>
+    requires short { length chars.now ≤ MAX_TEXT }
+    requires fit { spec.fits chars.now args.now ≡ true }
+    ensures { Gives (Some (spec.text_with chars.now args.now)) result }
+{
+    let mut out = TextBuilder::new(alloc);
+    let (mut rest, mut left) = (chars, args);
+    while !rest.is_empty() {
+        let Some((piece, read)) = read_piece(rest) else {
+            unreachable!()
+        };
+        let Some(more) = left_by(&piece, left) else {
+            unreachable!()
+        };
+        put_piece(alloc, &mut out, &piece, left)?;
+        left = more;
+        rest = &rest[read..];
     }
     made(out)
+}
+
+/// Puts the text of the piece at the end.
+fn put_piece(
+    alloc: Global,
+    out: &mut TextBuilder,
+    piece: &Piece,
+    args: &[Arg],
+) -> Result<(), TextFault>
+    requires { IsSome (spec.left_by piece.now args.now) }
+    ensures { Puts (spec.piece_text piece.now args.now) out.old out.new result }
+{
+    match piece {
+        Piece::Plain(c) => put(out, &[*c]),
+        Piece::Shown(conversion) => match args {
+            [arg, ..] => put_shown(alloc, out, conversion, arg),
+            [] => unreachable!(),
+        },
+    }
 }

@@ -1,20 +1,21 @@
 //! Texts that are put together.
-ghost use Rattle.std.specs.Prelude.{◌≡◌, ◌≤◌, ◌++◌, Some, length};
+ghost use Rattle.std.specs.Prelude.{◌≡◌, ◌≤◌, ◌<◌, ◌++◌, Some, length};
 ghost use Rattle.std.specs.List.{repeat};
 ghost use Rattle.gd_text.specs.Text as spec;
 ghost use Rattle.gd_text.specs.Text.{Gives};
 
-use crate::made::{append, copied, made};
-use gd_syntax::{MAX_TEXT, Text, TextFault};
+use crate::made::{append, copied, made, room};
+use gd_syntax::{MAX_TEXT, Text, TextBuilder, TextFault};
 use std::alloc::Global;
 
 /// The text `a` and then `b`. `TooLong` exactly where it passes the limit.
 pub fn concat(alloc: Global, a: &Text, b: &Text) -> Result<Text, TextFault>
     ensures { Gives (Some (a.now ++ b.now)) result }
 {
-    let mut out = Vec::new(alloc);
-    append(&mut out, a.chars())?;
-    append(&mut out, b.chars())?;
+    let (a, b) = (a.chars(), b.chars());
+    let mut out = TextBuilder::with_capacity(alloc, a.len() + b.len())?;
+    append(&mut out, a)?;
+    append(&mut out, b)?;
     made(out)
 }
 
@@ -40,7 +41,11 @@ fn copies(alloc: Global, chars: &[char], turns: u64) -> Result<Text, TextFault>
     if turns > MAX_TEXT as u64 {
         return Err(TextFault::TooLong);
     }
-    let mut out = Vec::new(alloc);
+    let total = chars.len() * turns as usize;
+    if total > MAX_TEXT {
+        return Err(TextFault::TooLong);
+    }
+    let mut out = room(alloc, total)?;
     for turn in 0..turns {
         append(&mut out, chars)?;
     }

@@ -1,9 +1,9 @@
 //! Laws of the definition of formatting: it gives one text, and its numbers are numerals.
-ghost use Rattle.std.specs.Prelude.{◌≡◌, ◌^◌, ◌<◌, List, ℕ};
+ghost use Rattle.std.specs.Prelude.{◌≡◌, ◌^◌, ◌<◌, ◌↔◌, List, Some, ℕ};
 ghost use Rattle.gd_text.specs.declared.formatting.Arg.{Arg};
 ghost use Rattle.gd_text.specs.declared.pattern.Letter.{Letter};
 ghost use Rattle.gd_text.specs.declared.pattern.Piece.{Piece};
-ghost use Rattle.gd_text.specs.Format.{IsFormatted, digits_under};
+ghost use Rattle.gd_text.specs.Format.{IsFormatted, digits_under, formatted};
 ghost use Rattle.gd_text.specs.Numerals.{IsNumeralOf, base_of};
 ghost use Rattle.gd_text.specs.Pattern.{IsPattern};
 
@@ -17,6 +17,11 @@ pub fn one_reading()
 pub fn one_text()
     ensures { (a : List ℕ) (args : List Arg) (t : List ℕ) (u : List ℕ)
         → IsFormatted a args t → IsFormatted a args u → t ≡ u }
+{}
+
+/// Formatting is a function of the pattern and the arguments, which gives the texts that the grammar says and no others.
+pub fn one_function()
+    ensures { (a : List ℕ) (args : List Arg) (t : List ℕ) → (formatted a args ≡ Some t) ↔ IsFormatted a args t }
 {}
 
 /// What stands for a magnitude of 64 bits is its numeral in the base of the letter.

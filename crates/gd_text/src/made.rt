@@ -1,39 +1,44 @@
 //! Texts that are built up to the limit.
-ghost use Rattle.std.specs.Prelude.{◌≡◌, ◌+◌, ◌≤◌, ◌<◌, ◌++◌, Some, length, IfOk, IfErr, OnErr, OnOk, IsErrOf, ◌⊎◌, MatchResult};
+ghost use Rattle.std.specs.Prelude.{◌≡◌, ◌+◌, ◌≤◌, ◌<◌, [], ◌++◌, Some, length, IfOk, IfErr, OnErr, OnOk, IsErrOf, ◌⊎◌, MatchResult};
 ghost use Rattle.gd_text.specs.Text.{Gives};
 
-use gd_syntax::{MAX_TEXT, Text, TextFault};
+use gd_syntax::{MAX_TEXT, Text, TextBuilder, TextFault};
 use std::alloc::Global;
 
-/// The text of these characters.
-pub fn made(chars: Vec<char>) -> Result<Text, TextFault>
-    ensures { Gives (Some chars.items) result }
+/// A text in the making, with room for these many characters.
+pub fn room(alloc: Global, n: usize) -> Result<TextBuilder, TextFault>
+    requires { n ≤ MAX_TEXT }
+    ensures empty { IfOk result (λ b. b ≡ []) }
+    ensures no_memory { IfErr result (λ e. e ≡ TextFault.NoMemory) }
 {
-    Text::of(chars)
+    TextBuilder::with_capacity(alloc, n)
 }
 
-/// The text of a part of a text, or of two parts of texts that are joined.
+/// The text that is made.
+pub fn made(out: TextBuilder) -> Result<Text, TextFault>
+    ensures { Gives (Some out) result }
+{
+    Ok(out.finish()?)
+}
+
+/// The same text over the same characters.
+pub fn shared(a: &Text) -> Result<Text, TextFault>
+    ensures { Gives (Some a.now) result }
+{
+    Ok(a.share()?)
+}
+
+/// The text of a part of a text.
 pub fn copied(alloc: Global, chars: &[char]) -> Result<Text, TextFault>
     ensures { Gives (Some chars.now) result }
 {
-    match Vec::from_slice(alloc, chars) {
-        Ok(all) => made(all),
-        Err(_) => Err(TextFault::NoMemory),
-    }
+    Text::of_slice(alloc, chars)
 }
 
 /// Puts the characters at the end, where no more than a text may have come of it.
-pub fn append(out: &mut Vec<char>, more: &[char]) -> Result<(), TextFault>
-    requires { length out.old.items ≤ MAX_TEXT }
-    ensures ok { OnOk result (out.new.items ≡ out.old.items ++ more.now) }
-    ensures fits { OnOk result (length out.new.items ≤ MAX_TEXT) }
-    ensures too_long { IfErr result (λ e. ((e ≡ TextFault.TooLong) × (MAX_TEXT < length out.old.items + length more.now)) ⊎ (e ≡ TextFault.NoMemory)) }
+pub fn append(out: &mut TextBuilder, more: &[char]) -> Result<(), TextFault>
+    ensures ok { OnOk result (out.new ≡ out.old ++ more.now) }
+    ensures too_long { IfErr result (λ e. ((e ≡ TextFault.TooLong) × (MAX_TEXT < length out.old + length more.now)) ⊎ (e ≡ TextFault.NoMemory)) }
 {
-    if more.len() > MAX_TEXT - out.len() {
-        return Err(TextFault::TooLong);
-    }
-    match out.extend_from_slice(more) {
-        Ok(()) => Ok(()),
-        Err(_) => Err(TextFault::NoMemory),
-    }
+    out.append(more)
 }

@@ -1,14 +1,12 @@
 //! The grammar of patterns: characters, `%%`, and conversions of flags, a width and a letter.
-ghost use Rattle.std.specs.Prelude.{◌≡◌, ◌+◌, ◌≤◌, ◌<◌, nat_lt, length, IfOk, IfSome};
+ghost use Rattle.std.specs.Prelude.{◌≡◌, ◌+◌, ◌≤◌, ◌<◌, nat_lt, length, IfSome};
 ghost use Rattle.std.specs.Char.{is_ascii_digit};
 ghost use Rattle.std.specs.List.{prefix_len};
 ghost use Rattle.gd_text.specs.Number as number;
-ghost use Rattle.gd_text.specs.Pattern.{is_flag, count_of, ReadsPattern};
+ghost use Rattle.gd_text.specs.Pattern.{is_flag, count_of};
 ghost use Rattle.gd_text.specs.Reading as spec;
 
 use crate::number::digits_value;
-use no_memory::NoMemory;
-use std::alloc::Global;
 
 /// What a conversion makes of its argument.
 #[derive(Clone, Copy, Debug, PartialEq, Eq)]
@@ -44,25 +42,9 @@ pub enum Piece {
     Shown(Conversion),
 }
 
-/// The pieces of the pattern, or `None` where it is none.
-pub fn pieces(alloc: Global, chars: &[char]) -> Result<Option<Vec<Piece>>, NoMemory>
-    ensures { IfOk result (ReadsPattern chars.now) }
-{
-    let mut all = Vec::new(alloc);
-    let mut at = 0;
-    while at < chars.len() {
-        let Some((piece, read)) = read_piece(&chars[at..]) else {
-            return Ok(None);
-        };
-        all.push(piece)?;
-        at += read;
-    }
-    Ok(Some(all))
-}
-
 /// The piece that the characters begin with, and how many it has.
 #[tactic(auto, unfolding(crate::specs::Reading::read_piece))]
-fn read_piece(chars: &[char]) -> Option<(Piece, usize)>
+pub fn read_piece(chars: &[char]) -> Option<(Piece, usize)>
     ensures value { result ≡ spec.read_piece chars.now }
     ensures within { IfSome result (λ p. (0 < p.1) × (p.1 ≤ length chars.now)) }
 {

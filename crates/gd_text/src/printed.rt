@@ -1,5 +1,5 @@
 //! What a conversion makes of its argument (docs/runtime.md, "Formatting").
-ghost use Rattle.std.specs.Prelude.{◌≡◌, ◌≤◌, ◌++◌, true, length, replicate, unsigned_abs, IfOk};
+ghost use Rattle.std.specs.Prelude.{◌≡◌, ◌+◌, ◌≤◌, ◌++◌, true, length, replicate, unsigned_abs, IfOk};
 ghost use Rattle.std.specs.String.{string_bytes};
 ghost use Rattle.std.specs.Fmt.{sign_text_with};
 ghost use Rattle.gd_text.specs.declared.formatting.Arg.TheVariants.{Num};
@@ -7,10 +7,8 @@ ghost use Rattle.gd_text.specs.Format as spec;
 ghost use Rattle.gd_text.specs.Text.{Puts};
 
 use crate::formatting::Arg;
-use crate::made::append;
 use crate::pattern::{Conversion, Letter};
-use gd_syntax::{MAX_TEXT, TextFault};
-use no_memory::NoMemory;
+use gd_syntax::{TextBuilder, TextFault};
 use std::alloc::{AllocError, Global};
 
 /// Whether a conversion with this letter takes the argument.
@@ -40,66 +38,133 @@ fn is_character(arg: &Arg) -> bool
 /// Puts what the conversion makes of the argument at the end.
 pub fn put_shown(
     alloc: Global,
-    out: &mut Vec<char>,
+    out: &mut TextBuilder,
     conversion: &Conversion,
     arg: &Arg,
 ) -> Result<(), TextFault>
-    requires room { length out.old.items ≤ MAX_TEXT }
-    requires taken { spec.takes conversion.now.letter arg.now ≡ true }
-    ensures { Puts (spec.shown conversion.now arg.now) out.old.items out.new.items result }
+    requires { spec.takes conversion.now.letter arg.now ≡ true }
+    ensures { Puts (spec.shown conversion.now arg.now) out.old out.new result }
 {
     match arg {
-        Arg::Num(n) => match int_text(alloc, conversion, *n) {
-            Ok(text) => put_filled(alloc, out, conversion, text.as_slice()),
-            Err(NoMemory) => Err(TextFault::NoMemory),
-        },
-        Arg::Str(text) => put_filled(alloc, out, conversion, text.chars()),
-        Arg::Other(text) => put_filled(alloc, out, conversion, text.chars()),
+        Arg::Num(n) => put_int(alloc, out, conversion, *n),
+        Arg::Str(text) => put_filled(out, conversion, text.chars()),
+        Arg::Other(text) => put_filled(out, conversion, text.chars()),
     }
 }
 
-/// Puts the characters at the end, with blanks up to the width.
-fn put_filled(
+/// Puts what stands for an int, with blanks up to the width.
+fn put_int(
     alloc: Global,
-    out: &mut Vec<char>,
+    out: &mut TextBuilder,
     conversion: &Conversion,
-    text: &[char],
+    n: i64,
 ) -> Result<(), TextFault>
-    requires { length out.old.items ≤ MAX_TEXT }
-    ensures { Puts (spec.filled conversion.now text.now) out.old.items out.new.items result }
-{
-    let missing = conversion.width.saturating_sub(text.len());
-    match vec![in alloc; ' '; missing] {
-        Ok(blanks) if conversion.minus => put_both(out, text, blanks.as_slice()),
-        Ok(blanks) => put_both(out, blanks.as_slice(), text),
-        Err(_) => Err(TextFault::NoMemory),
-    }
-}
-
-/// Puts both parts at the end.
-fn put_both(out: &mut Vec<char>, first: &[char], second: &[char]) -> Result<(), TextFault>
-    requires { length out.old.items ≤ MAX_TEXT }
-    ensures { Puts (first.now ++ second.now) out.old.items out.new.items result }
-{
-    append(out, first)?;
-    append(out, second)
-}
-
-/// What stands for an int, before it is filled up.
-fn int_text(alloc: Global, conversion: &Conversion, n: i64) -> Result<Vec<char>, NoMemory>
     requires { spec.takes conversion.now.letter (Num n) ≡ true }
-    ensures { IfOk result (λ t. t.items ≡ spec.int_text conversion.now.letter conversion.now n) }
+    ensures { Puts (spec.shown conversion.now (Num n)) out.old out.new result }
 {
     match conversion.letter {
-        Letter::Any => chars_of(alloc, format!(in alloc; "{n}")?.as_bytes()),
+        Letter::Any => {
+            let digits = format!(in alloc; "{n}")?;
+            put_filled_bytes(out, conversion, digits.as_bytes())
+        }
         Letter::Character => match character(n) {
-            Some(c) => Ok(vec![in alloc; c]?),
+            Some(c) => put_filled(out, conversion, &[c]),
             None => unreachable!(),
         },
         Letter::Decimal | Letter::Octal | Letter::LowerHex | Letter::UpperHex => {
-            number(alloc, conversion, n)
+            let digits = numeral(alloc, conversion.letter, n.unsigned_abs())?;
+            put_number(out, conversion, sign(conversion.plus, n), digits.as_bytes())
         }
     }
+}
+
+/// Puts the characters, with blanks up to the width.
+fn put_filled(
+    out: &mut TextBuilder,
+    conversion: &Conversion,
+    text: &[char],
+) -> Result<(), TextFault>
+    ensures { Puts (spec.filled conversion.now text.now) out.old out.new result }
+{
+    let missing = conversion.width.saturating_sub(text.len());
+    if conversion.minus {
+        put(out, text)?;
+        return put_many(out, ' ', missing);
+    }
+    put_many(out, ' ', missing)?;
+    put(out, text)
+}
+
+/// Puts the characters whose codes are these bytes, with blanks up to the width.
+fn put_filled_bytes(
+    out: &mut TextBuilder,
+    conversion: &Conversion,
+    bytes: &[u8],
+) -> Result<(), TextFault>
+    ensures { Puts (spec.filled conversion.now bytes.now) out.old out.new result }
+{
+    let missing = conversion.width.saturating_sub(bytes.len());
+    if conversion.minus {
+        put_bytes(out, bytes)?;
+        return put_many(out, ' ', missing);
+    }
+    put_many(out, ' ', missing)?;
+    put_bytes(out, bytes)
+}
+
+/// Puts a number: its sign, zeros and digits, with blanks up to the width.
+fn put_number(
+    out: &mut TextBuilder,
+    conversion: &Conversion,
+    sign: &[char],
+    digits: &[u8],
+) -> Result<(), TextFault>
+    ensures { Puts (spec.filled conversion.now (sign.now ++ (spec.zeros conversion.now (length sign.now + length digits.now) ++ digits.now))) out.old out.new result }
+{
+    let len = sign.len() + digits.len();
+    let zeros = zero_count(conversion, len);
+    let missing = conversion.width.saturating_sub(len).saturating_sub(zeros);
+    if conversion.minus {
+        put_parts(out, sign, zeros, digits)?;
+        return put_many(out, ' ', missing);
+    }
+    put_many(out, ' ', missing)?;
+    put_parts(out, sign, zeros, digits)
+}
+
+/// Puts a sign, zeros and digits.
+fn put_parts(
+    out: &mut TextBuilder,
+    sign: &[char],
+    zeros: usize,
+    digits: &[u8],
+) -> Result<(), TextFault>
+    ensures { Puts (sign.now ++ (replicate zeros 48 ++ digits.now)) out.old out.new result }
+{
+    put(out, sign)?;
+    put_many(out, '0', zeros)?;
+    put_bytes(out, digits)
+}
+
+/// Puts the characters.
+pub fn put(out: &mut TextBuilder, more: &[char]) -> Result<(), TextFault>
+    ensures { Puts more.now out.old out.new result }
+{
+    out.append(more)
+}
+
+/// Puts the characters whose codes are these bytes.
+fn put_bytes(out: &mut TextBuilder, bytes: &[u8]) -> Result<(), TextFault>
+    ensures { Puts bytes.now out.old out.new result }
+{
+    out.append_bytes(bytes)
+}
+
+/// Puts the character, `n` times.
+fn put_many(out: &mut TextBuilder, c: char, n: usize) -> Result<(), TextFault>
+    ensures { Puts (replicate n c) out.old out.new result }
+{
+    out.fill(c, n)
 }
 
 /// The character with this code.
@@ -110,20 +175,6 @@ fn character(n: i64) -> Option<char>
         return None;
     }
     char::from_u32(n as u32)
-}
-
-/// A number: its sign, zeros up to the width, and the digits of its magnitude.
-fn number(alloc: Global, conversion: &Conversion, n: i64) -> Result<Vec<char>, NoMemory>
-    ensures { IfOk result (λ t. t.items ≡ spec.number conversion.now n) }
-{
-    let sign = sign(conversion.plus, n);
-    let digits = digits(alloc, conversion.letter, n.unsigned_abs())?;
-    let zeros = zeros(alloc, conversion, sign.len() + digits.len())?;
-    let mut text = Vec::new(alloc);
-    text.extend_from_slice(sign)?;
-    text.extend_from_slice(zeros.as_slice())?;
-    text.extend_from_slice(digits.as_slice())?;
-    Ok(text)
 }
 
 /// The sign that is shown before a number.
@@ -139,25 +190,18 @@ fn sign(plus: bool, n: i64) -> &'static [char]
     }
 }
 
-/// The zeros that bring a number of `len` characters to the width.
-fn zeros(alloc: Global, conversion: &Conversion, len: usize) -> Result<Vec<char>, AllocError>
-    ensures { IfOk result (λ t. t.items ≡ spec.zeros conversion.now len) }
+/// How many zeros bring a number of `len` characters to the width.
+fn zero_count(conversion: &Conversion, len: usize) -> usize
+    ensures { replicate result 48 ≡ spec.zeros conversion.now len }
 {
     if conversion.zero && !conversion.minus {
-        vec![in alloc; '0'; conversion.width.saturating_sub(len)]
+        conversion.width.saturating_sub(len)
     } else {
-        Ok(Vec::new(alloc))
+        0
     }
 }
 
 /// The digits of a number in the base of the letter.
-fn digits(alloc: Global, letter: Letter, n: u64) -> Result<Vec<char>, NoMemory>
-    ensures { IfOk result (λ t. t.items ≡ spec.digits_under letter n) }
-{
-    chars_of(alloc, numeral(alloc, letter, n)?.as_bytes())
-}
-
-/// The same digits as a string.
 fn numeral(alloc: Global, letter: Letter, n: u64) -> Result<String, AllocError>
     ensures { IfOk result (λ s. string_bytes s ≡ spec.digits_under letter n) }
 {
@@ -167,15 +211,4 @@ fn numeral(alloc: Global, letter: Letter, n: u64) -> Result<String, AllocError>
         Letter::UpperHex => format!(in alloc; "{n:X}"),
         Letter::Any | Letter::Character | Letter::Decimal => format!(in alloc; "{n}"),
     }
-}
-
-/// The characters whose codes are these bytes.
-fn chars_of(alloc: Global, bytes: &[u8]) -> Result<Vec<char>, NoMemory>
-    ensures { IfOk result (λ t. t.items ≡ bytes.now) }
-{
-    let mut chars = Vec::new(alloc);
-    for b in bytes {
-        chars.push(*b as char)?;
-    }
-    Ok(chars)
 }

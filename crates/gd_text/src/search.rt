@@ -3,7 +3,7 @@ ghost use Rattle.std.specs.Prelude.{◌≡◌, ◌+◌, ◌≤◌, ◌<◌, Some
 ghost use Rattle.gd_text.specs.Text.{Gives, GivesList};
 ghost use Rattle.gd_text.specs.Search as spec;
 
-use crate::made::{append, copied, made};
+use crate::made::{append, copied, made, room, shared};
 use gd_syntax::{MAX_TEXT, Text, TextFault};
 use std::alloc::Global;
 
@@ -43,9 +43,9 @@ pub fn replace(alloc: Global, a: &Text, what: &Text, with: &Text) -> Result<Text
 {
     let (chars, what, with) = (a.chars(), what.chars(), with.chars());
     if what.is_empty() {
-        return copied(alloc, chars);
+        return shared(a);
     }
-    let mut out = Vec::new(alloc);
+    let mut out = room(alloc, chars.len())?;
     let mut start = 0;
     while let Some(at) = find_from(chars, what, start) {
         append(&mut out, &chars[start..at])?;
@@ -80,7 +80,7 @@ fn single_characters(alloc: Global, chars: &[char]) -> Result<Vec<Text>, TextFau
     requires { length chars.now ≤ MAX_TEXT }
     ensures { GivesList (spec.single_characters chars.now) result }
 {
-    let mut parts = Vec::new(alloc);
+    let mut parts = Vec::with_capacity(alloc, chars.len())?;
     for i in 0..chars.len() {
         add_part(&mut parts, alloc, &chars[i..i + 1], true)?;
     }

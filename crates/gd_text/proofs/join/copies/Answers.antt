@@ -1,7 +1,8 @@
-use Rattle.std.proofs.Common.{◌≡◌, ℕ, zero, suc, ◌+◌, ◌-◌, ◌<◌, ◌≤◌, true, false, List, [], ◌++◌, length, refl, sym, ap, ◌∙◌, length-append, append_assoc, append-nil, arith, ◌==◌}
+use Rattle.std.proofs.Common.{◌≡◌, ℕ, zero, suc, ◌+◌, ◌-◌, ◌*◌, ◌<◌, ◌≤◌, true, false, List, [], ◌++◌, length, refl, sym, ap, ◌∙◌, length-append, append_assoc, append-nil, arith, ◌==◌}
 use Rattle.std.specs.List.{repeat}
 use Rattle.std.proofs.lemmas.Bool.Decides.{nat_tests}
 use Rattle.std.proofs.lemmas.List.{nil_from_length}
+use Rattle.std.proofs.Math.Nat.{mul-suc}
 use Rattle.gd_text.proofs.Refusals.{refused-Gives, passed_on, Gives-same}
 use Rattle.gd_text.proofs.join.copies.Goals as goal
 
@@ -32,6 +33,12 @@ long_enough (suc n) xs some =
     let l : n ≤ length (repeat n xs) = long_enough n xs some in
     omega (arith, length-append xs (repeat n xs))
 
+repeat_length : (n : ℕ) (xs : List ℕ) → length (repeat n xs) ≡ length xs * n
+repeat_length zero xs = omega arith
+repeat_length (suc n) xs =
+    let l = repeat_length n xs in
+    omega (arith, length-append xs (repeat n xs), mul-suc (length xs) n)
+
 some : (n : ℕ) → false ≡ (n == 0) → 0 < n
 some n h = grind (arith, nat_tests)
 
@@ -48,13 +55,15 @@ returns-then-turns c = omega (arith, long_enough c.args.turns c.args.chars.now (
 
 pub returns-in_err-append : goal.returns-in_err-append
 returns-in_err-append c =
-    refused-Gives _ _ _ _ _ _ (passed_on _ _ c.from_residual.ensures.1) c.in_err-append.ensures.too_long
+    refused-Gives _ _ _ _ _ _ (passed_on _ _ c.from_residual-in_err-append.ensures.1) c.in_err-append.ensures.too_long
     (repeat_left c.loop-turn.turn c.args.turns c.args.chars.now c.loop-turn-test.true ∙ ap (λ xs. xs ++ (c.args.chars.now ++ repeat (c.args.turns - suc c.loop-turn.turn) c.args.chars.now)) (sym c.loop-turn.invariant.done))
 
 pub loop-turn-preserved : goal.loop-turn-preserved
 loop-turn-preserved c =
     let e : suc c.loop-turn.turn ≡ c.loop-turn.turn + 1 = omega arith in
     record {
-      short = c.in_ok-append.ensures.fits;
       done = c.in_ok-append.ensures.ok ∙ ap (λ xs. xs ++ c.args.chars.now) c.loop-turn.invariant.done ∙ repeat_more c.loop-turn.turn c.args.chars.now ∙ ap (λ n. repeat n c.args.chars.now) e;
     }
+
+pub returns-then-total-gt-MAX_TEXT : goal.returns-then-total-gt-MAX_TEXT
+returns-then-total-gt-MAX_TEXT c = omega (arith, repeat_length c.args.turns c.args.chars.now)

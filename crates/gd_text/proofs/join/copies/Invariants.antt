@@ -4,6 +4,5 @@ use Rattle.gd_text.proofs.join.copies.Given as goal
 
 abbrev pub invariant-loop-turn : goal.invariant-loop-turn
 invariant-loop-turn l = record {
-  short : length l.out.items ≤ 16777216;
-  done : l.out.items ≡ repeat l.turn l.chars;
+  done : l.out ≡ repeat l.turn l.chars;
 }

@@ -5,8 +5,7 @@ use Rattle.gd_text.proofs.search.replace.Given as goal
 abbrev pub invariant-loop-at : goal.invariant-loop-at
 invariant-loop-at l = record {
   within : l.start ≤ length l.chars;
-  short : length l.out.items ≤ 16777216;
-  rest : joined l.with (parts l.what l.chars) ≡ l.out.items ++ joined l.with (parts l.what (drop l.start l.chars));
+  rest : joined l.with (parts l.what l.chars) ≡ l.out ++ joined l.with (parts l.what (drop l.start l.chars));
 }
 
 abbrev pub decreases-loop-at : goal.decreases-loop-at
