@@ -5,4 +5,3 @@ pub mod Pattern
 pub mod Reading
 pub mod Search
 pub mod Text
-pub mod Formatted

@@ -6,7 +6,7 @@ use Rattle.gd_model.specs.Datum.{Datum, int, text, array}
 use Rattle.gd_model.specs.Store.{Store, Names, array_at}
 use Rattle.gd_text.specs.declared.formatting.Arg.{Arg}
 use Rattle.gd_text.specs.declared.formatting.Arg.TheVariants as arg
-use Rattle.gd_text.specs.Formatted.{formatted}
+use Rattle.gd_text.specs.Format.{formatted}
 use Rattle.value_semantics.specs.Made.{Made, text_made}
 use Rattle.value_semantics.specs.Printed.{printed}
 
