@@ -1,0 +1,4 @@
+pub mod Agreement
+pub mod Formats
+pub mod Printed
+pub mod Standing
