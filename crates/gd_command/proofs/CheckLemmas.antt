@@ -1,5 +1,6 @@
 -- What `check` of a project answers, from the paths that it lists and the files that it reads.
-use Rattle.std.proofs.Common.{◌≡◌, ◌≢◌, ◌≤◌, ◌<◌, ◌+◌, ℕ, zero, suc, List, [], ◌∷◌, ◌++◌, length, take, drop, get_or, filter, codes, bytes_eq, false, cond, Option, Some, None, Result, Ok, Err, refl, sym, ap, subst, ◌∙◌, arith, All, IfSome, IfOk, Contains, length-append, inl, inr, Vec}
+use Rattle.std.proofs.Common.{◌≡◌, ◌≢◌, ◌≤◌, ◌<◌, ◌+◌, ℕ, zero, suc, List, [], ◌∷◌, ◌++◌, length, take, drop, get_or, filter, codes, bytes_eq, false, cond, Option, Some, None, Result, Ok, Err, refl, sym, ap, subst, ◌∙◌, arith, All, IfSome, IfOk, length-append, inl, inr, Vec, slice_get}
+use Rattle.std.specs.List.{flat_map}
 use Rattle.std.specs.Ordering.{nat_cmp, is_eq}
 use Rattle.std.specs.declared.cmp.Ordering.TheVariants.{Less}
 use Rattle.std.specs.Cmp.Lexicographic.{slice_cmp}
@@ -12,37 +13,36 @@ use Rattle.std.proofs.lemmas.Slice.Eq.{bytes_eq-Decides}
 use Rattle.std.proofs.lemmas.List.{length-map, map-append, get_or-map, take_more, take_all, take-append-drop, length-take-le}
 use Rattle.std.proofs.lemmas.List.Elements.{All-append, All-filter}
 use Rattle.std.proofs.lemmas.List.Sums.{sum_by_more}
+use Rattle.std.proofs.lemmas.Option.{slice_get_within, get_or_from_slice_get}
 use Rattle.std.proofs.Math.Seq.{drop-cons}
 use Rattle.gd_outside.specs.Files.{File, IsRising, paths_of, bytes_at, Reads, place_of}
 use Rattle.gd_outside.specs.declared.shelf.FailedCall.{FailedCall}
 use Rattle.gd_outside.specs.declared.shelf.FailedCall.TheVariants.{Read}
-use Rattle.gd_syntax.specs.declared.token.Token.{Token}
-use Rattle.gd_lexer.specs.Found.{AreWhole}
-use Rattle.gd_command.specs.Output.{scripts, IsShort, total, FitsLimits, IsOneEach, none, without, with_fault, CheckOutput, many_files, long_file, long_project, clean, faulty}
-use Rattle.gd_command.specs.Answer.{IsAnswer, IsFaultOf}
-use Rattle.gd_command.specs.Check.{AreAt, AddUp, Stops, Hinders, IsFileAt, Judges, script_paths}
-use Rattle.gd_command.specs.declared.answer.FileFault.{FileFault}
-use Rattle.gd_command.specs.declared.answer.Answer.{Answer}
-use Rattle.gd_command.specs.declared.answer.Answer.TheVariants.{Usage, ListFault, ReadFault, NotBuilt, Ran, TooManyFiles, LongFile, LongProject, Clean, Faulty}
-use Rattle.gd_command.specs.declared.check.Script.{Script}
-use Rattle.gd_command.specs.declared.check.Unread.{Unread}
-use Rattle.gd_command.specs.declared.check.Unread.TheVariants as unread
 use Rattle.gd_outside.specs.declared.shelf.ShelfFault.{ShelfFault}
 use Rattle.gd_outside.specs.declared.shelf.ShelfFault.TheVariants.{Failed}
 use Rattle.gd_outside.specs.Shelf.{failed_after}
+use Rattle.gd_syntax.specs.declared.token.Token.{Token}
+use Rattle.gd_syntax.specs.declared.pos.Pos.{Pos}
+use Rattle.gd_rules.specs.declared.diag.Diag.{Diag}
+use Rattle.gd_rules.specs.declared.rule.Rule.{Rule}
+use Rattle.gd_lexis.specs.Lexes.{Lexes}
+use Rattle.gd_lexis.specs.Faults.{FirstFault}
+use Rattle.gd_lexer.specs.Found.{AreWhole}
+use Rattle.gd_lexer.specs.LexFaults.{IsFirstFault}
+use Rattle.gd_lexer.specs.declared.fault.LexFault.{LexFault}
+use Rattle.gd_lexer.specs.declared.fault.LexFault.TheVariants.{Fault}
+use Rattle.gd_grammar.specs.Fault.{StandsAt}
+use Rattle.gd_command.specs.Output.{scripts, sources_of, IsShort, total, FitsLimits, CheckOutput, many_files, long_file, long_project, checked}
+use Rattle.gd_command.specs.Report.{ReportState, FileFinds, lexical, syntax, nothing, Finds, clean_file, faulty_file, diag_line, report_status}
+use Rattle.gd_command.specs.Answer.{IsAnswer, IsFaultOf}
+use Rattle.gd_command.specs.Call.{IsReached}
+use Rattle.gd_command.specs.Check.{AreAt, AreRead, AddUp, Stands, Stops, Hinders, bytes_of}
+use Rattle.gd_command.specs.declared.answer.Answer.{Answer}
+use Rattle.gd_command.specs.declared.answer.Answer.TheVariants.{Checked}
+use Rattle.gd_command.specs.declared.check.Unread.{Unread}
+use Rattle.gd_command.specs.declared.check.Unread.TheVariants as unread
 use Rattle.gd_command.specs.declared.status.Status.TheVariants as status
 use Rattle.gd_command.proofs.RunLemmas.{is_script, filter-paths}
-
--- a further path without a fault, and one with
-pub one_without : (faults : List FileFault) (paths : List (List ℕ)) (path : List ℕ) → IsOneEach faults paths → IsOneEach faults (paths ++ (path ∷ []))
-one_without _ _ path none = without [] path [] none
-one_without _ _ path (without faults first paths each) = without faults first (paths ++ (path ∷ [])) (one_without faults paths path each)
-one_without _ _ path (with_fault fault faults paths each) = with_fault fault faults (paths ++ (path ∷ [])) (one_without faults paths path each)
-
-pub one_with : (faults : List FileFault) (paths : List (List ℕ)) (fault : FileFault) → IsOneEach faults paths → IsOneEach (faults ++ (fault ∷ [])) (paths ++ (fault.path ∷ []))
-one_with _ _ fault none = with_fault fault [] [] none
-one_with _ _ fault (without faults first paths each) = without (faults ++ (fault ∷ [])) first (paths ++ (fault.path ∷ [])) (one_with faults paths fault each)
-one_with _ _ fault (with_fault other faults paths each) = with_fault other (faults ++ (fault ∷ [])) (paths ++ (fault.path ∷ [])) (one_with faults paths fault each)
 
 -- a file whose path is below another's is not at that path
 apart : (a b : List ℕ) → slice_cmp nat_cmp a b ≡ Less → bytes_eq a b ≡ false
@@ -78,68 +78,88 @@ all_one : (file : File) → IsShort file → All IsShort (file ∷ [])
 all_one file short zero d lt = short
 all_one file short (suc k) d lt = absurd (omega arith)
 
--- one more short file
-add_up : (files read : List File) (paths : List (List ℕ)) (path bytes : List ℕ) (i before : ℕ) → paths ≡ paths_of read → AreAt files read → i < length paths → path ≡ get_or paths i path → bytes_at files path ≡ Some bytes → length bytes ≤ 1048576 → AddUp read i before → AddUp read (i + 1) (before + length bytes)
-add_up files read paths path bytes i before are at lt is found short counted =
+-- one more short file, which was kept where all are within the limit
+add_up : (files read : List File) (paths : List (List ℕ)) (path : List ℕ) (source : Vec ℕ Global) (i before : ℕ) (kept more : List (Vec ℕ Global)) → paths ≡ paths_of read → AreAt files read → i < length paths → path ≡ get_or paths i path → bytes_at files path ≡ Some source.items → length source.items ≤ 1048576 → (before + length source.items ≤ 4194304 → more ≡ kept ++ (source ∷ [])) → AddUp read i before kept → AddUp read (i + 1) (before + length source.items) more
+add_up files read paths path source i before kept more are at lt is found short added counted =
+    let bytes = source.items in
     let inside : i < length read = omega (arith, ap length are, length-map read (λ (file : File). file.0)) in
     let file = found_at files read paths path bytes i are at lt is found in
+    let front : take (i + 1) read ≡ take i read ++ ((path, bytes) ∷ []) = take_more read i (path, bytes) inside ∙ ap (λ f. take i read ++ (f ∷ [])) file in
     record {
-      short = subst (All IsShort) (sym (take_more read i (path, bytes) inside ∙ ap (λ f. take i read ++ (f ∷ [])) file)) (All-append IsShort (take i read) ((path, bytes) ∷ []) counted.short (all_one (path, bytes) short));
+      short = subst (All IsShort) (sym front) (All-append IsShort (take i read) ((path, bytes) ∷ []) counted.short (all_one (path, bytes) short));
       together = ap (λ n. n + length bytes) counted.together ∙ sym (sum_by_more (λ (f : File). length f.1) read i (path, bytes) inside ∙ ap (λ (f : File). total (take i read) + length f.1) file);
+      sources = λ small.
+          ap bytes_of (added small) ∙ map-append (λ (s : Vec ℕ Global). s.items) kept (source ∷ []) ∙ ap (λ list. list ++ (bytes ∷ [])) (counted.sources (omega arith)) ∙ sym (ap sources_of front ∙ map-append (λ (f : File). f.1) (take i read) ((path, bytes) ∷ []));
     }
 
 -- over a shelf that tells its files
 
-abbrev pub Counted : Option (List File) → List (List ℕ) → ℕ → ℕ → Type 0
-Counted told paths i bytes = IfSome told (λ files. (read : List File) → paths ≡ paths_of read → AreAt files read → AddUp read i bytes)
+abbrev pub Counted : Option (List File) → List (List ℕ) → ℕ → ℕ → List (Vec ℕ Global) → Type 0
+Counted told paths i bytes kept = IfSome told (λ files. (read : List File) → paths ≡ paths_of read → AreAt files read → AddUp read i bytes kept)
 
-pub counted_start : (told : Option (List File)) (paths : List (List ℕ)) → Counted told paths 0 0
-counted_start None paths = tt
-counted_start (Some files) paths = λ read are at. record { short = λ k d lt. absurd (omega arith); together = refl }
+pub counted_start : (told : Option (List File)) (paths : List (List ℕ)) (kept : List (Vec ℕ Global)) → kept ≡ [] → Counted told paths 0 0 kept
+counted_start None paths kept none = tt
+counted_start (Some files) paths kept none = λ read are at. record { short = λ k d lt. absurd (omega arith); together = refl; sources = λ small. ap bytes_of none }
 
 -- one more script was read
-pub counted_more : (told now : Option (List File)) (paths : List (List ℕ)) (path : List ℕ) (i before after : ℕ) (script : Script) → after ≡ before + length script.source.items → now ≡ told → i < length paths → path ≡ get_or paths i path → IfSome now (λ files. IsFileAt files path script) → length script.source.items ≤ 1048576 → Counted told paths i before → Counted told paths (i + 1) after
-counted_more None now paths path i before after script sum same lt is found short counted = tt
-counted_more (Some files) now paths path i before after script sum same lt is found short counted = λ read are at.
-    let file : IsFileAt files path script = subst (λ (o : Option (List File)). IfSome o (λ files. IsFileAt files path script)) same found in
-    subst (AddUp read (i + 1)) (sym sum) (add_up files read paths path script.source.items i before are at lt is file.bytes short (counted read are at))
+pub counted_more : (told now : Option (List File)) (paths : List (List ℕ)) (path : List ℕ) (i before after : ℕ) (source : Vec ℕ Global) (kept more : List (Vec ℕ Global)) → after ≡ before + length source.items → now ≡ told → i < length paths → path ≡ get_or paths i path → IfSome now (λ files. bytes_at files path ≡ Some source.items) → length source.items ≤ 1048576 → (after ≤ 4194304 → more ≡ kept ++ (source ∷ [])) → Counted told paths i before kept → Counted told paths (i + 1) after more
+counted_more None now paths path i before after source kept more sum same lt is found short added counted = tt
+counted_more (Some files) now paths path i before after source kept more sum same lt is found short added counted = λ read are at.
+    let file : bytes_at files path ≡ Some source.items = subst (λ (o : Option (List File)). IfSome o (λ files. bytes_at files path ≡ Some source.items)) same found in
+    subst (λ (n : ℕ). AddUp read (i + 1) n more) (sym sum) (add_up files read paths path source i before kept more are at lt is file short (λ small. added (omega (arith, sum))) (counted read are at))
+
+-- the file at place i stands behind those before it
+stands_at : (read : List File) (path bytes : List ℕ) (i : ℕ) → i < length read → get_or read i (path, bytes) ≡ (path, bytes) → read ≡ take i read ++ ((path, bytes) ∷ drop (suc i) read)
+stands_at read path bytes i inside file = sym (take-append-drop i read) ∙ ap (λ rest. take i read ++ rest) (drop-cons read i (path, bytes) inside ∙ ap (λ f. f ∷ drop (suc i) read) file)
 
 -- what kept a script from being read keeps all from it
-stopped : (files read : List File) (paths : List (List ℕ)) (path : List ℕ) (i before : ℕ) (failed : FailedCall) (why : Unread) → paths ≡ paths_of read → AreAt files read → i < length paths → path ≡ get_or paths i path → AddUp read i before → Hinders files failed path why → Stops files read failed why
-stopped files read paths path i before failed (unread.Failed named) are at lt is counted (same, call) = (
-  call ∙ ap (λ p. Read (place_of files p)) (sym same),
-  subst (λ (list : List (List ℕ)). Contains list named) are (i, lt, ap (λ p. get_or paths i p) same ∙ sym is ∙ sym same),
-)
-stopped files read paths path i before failed (unread.LongFile named) are at lt is counted (same, bytes, there, long) =
+stopped : (files read : List File) (paths : List (List ℕ)) (path : List ℕ) (i before : ℕ) (kept : List (Vec ℕ Global)) (failed : FailedCall) (why : Unread) → paths ≡ paths_of read → AreAt files read → i < length paths → path ≡ get_or paths i path → AddUp read i before kept → Hinders files failed path why → Stops files read failed why
+stopped files read paths path i before kept failed (unread.Failed named) are at lt is counted (same, call) =
+    let inside : i < length read = omega (arith, ap length are, length-map read (λ (file : File). file.0)) in
+    let file = get_or read i (named, []) in
+    let there : file.0 ≡ named = sym (get_or-map (λ (f : File). f.0) read i (named, []) named inside) ∙ sym (ap (λ (ps : List (List ℕ)). get_or ps i named) are) ∙ sym (same ∙ is ∙ ap (λ p. get_or paths i p) (sym same)) in (
+      call ∙ ap (λ p. Read (place_of files p)) (sym same),
+      take i read,
+      file.1,
+      drop (suc i) read,
+      (sym (take-append-drop i read) ∙ ap (λ rest. take i read ++ rest) (drop-cons read i (named, []) inside ∙ ap (λ f. f ∷ drop (suc i) read) (pair_is file named there)), counted.short),
+    )
+  where
+    pair_is : (file : File) (path : List ℕ) → file.0 ≡ path → file ≡ (path, file.1)
+    pair_is (p, b) path named = ap (λ q. (q, b)) named
+stopped files read paths path i before kept failed (unread.LongFile named) are at lt is counted (same, bytes, there, long) =
     let file = found_at files read paths path bytes i are at lt is there in
     let inside : i < length read = omega (arith, ap length are, length-map read (λ (file : File). file.0)) in
-    (take i read, drop (suc i) read, bytes, sym (take-append-drop i read) ∙ ap (λ rest. take i read ++ rest) (drop-cons read i (path, bytes) inside ∙ ap (λ f. f ∷ drop (suc i) read) file ∙ ap (λ p. (p, bytes) ∷ drop (suc i) read) (sym same)), counted.short, long)
-stopped files read paths path i before failed unread.LongProject are at lt is counted why = absurd why
-stopped files read paths path i before failed unread.NoMemory are at lt is counted why = tt
+    (take i read, bytes, drop (suc i) read, (stands_at read path bytes i inside file ∙ ap (λ p. take i read ++ ((p, bytes) ∷ drop (suc i) read)) (sym same), counted.short), long)
+stopped files read paths path i before kept failed unread.LongProject are at lt is counted why = absurd why
+stopped files read paths path i before kept failed unread.NoMemory are at lt is counted why = tt
 
-pub counted_stop : (told now : Option (List File)) (paths : List (List ℕ)) (path : List ℕ) (i before : ℕ) (failed : FailedCall) (why : Unread) → now ≡ told → i < length paths → path ≡ get_or paths i path → IfSome now (λ files. Hinders files failed path why) → Counted told paths i before → IfSome told (λ files. (read : List File) → paths ≡ paths_of read → AreAt files read → Stops files read failed why)
-counted_stop None now paths path i before failed why same lt is hinders counted = tt
-counted_stop (Some files) now paths path i before failed why same lt is hinders counted = λ read are at.
-    stopped files read paths path i before failed why are at lt is (counted read are at) (subst (λ (o : Option (List File)). IfSome o (λ files. Hinders files failed path why)) same hinders)
+pub counted_stop : (told now : Option (List File)) (paths : List (List ℕ)) (path : List ℕ) (i before : ℕ) (kept : List (Vec ℕ Global)) (failed : FailedCall) (why : Unread) → now ≡ told → i < length paths → path ≡ get_or paths i path → IfSome now (λ files. Hinders files failed path why) → Counted told paths i before kept → IfSome told (λ files. (read : List File) → paths ≡ paths_of read → AreAt files read → Stops files read failed why)
+counted_stop None now paths path i before kept failed why same lt is hinders counted = tt
+counted_stop (Some files) now paths path i before kept failed why same lt is hinders counted = λ read are at.
+    stopped files read paths path i before kept failed why are at lt is (counted read are at) (subst (λ (o : Option (List File)). IfSome o (λ files. Hinders files failed path why)) same hinders)
 
 all_read : (read : List File) (paths : List (List ℕ)) (i : ℕ) → paths ≡ paths_of read → length paths ≤ i → take i read ≡ read
 all_read read paths i are end = take_all i read (omega (arith, ap length are, length-map read (λ (file : File). file.0)))
 
 -- all were read: they are within the limits, or too long together
-pub counted_all : (told : Option (List File)) (paths : List (List ℕ)) (i bytes : ℕ) → length paths ≤ 1024 → length paths ≤ i → bytes ≤ 4194304 → Counted told paths i bytes → IfSome told (λ files. (read : List File) → paths ≡ paths_of read → AreAt files read → FitsLimits read)
-counted_all None paths i bytes few end small counted = tt
-counted_all (Some files) paths i bytes few end small counted = λ read are at.
+pub counted_all : (told : Option (List File)) (paths : List (List ℕ)) (i bytes : ℕ) (kept : List (Vec ℕ Global)) → length paths ≤ 1024 → length paths ≤ i → bytes ≤ 4194304 → Counted told paths i bytes kept → IfSome told (λ files. (read : List File) → paths ≡ paths_of read → AreAt files read → AreRead read kept)
+counted_all None paths i bytes kept few end small counted = tt
+counted_all (Some files) paths i bytes kept few end small counted = λ read are at.
     let all = counted read are at in
     let whole = all_read read paths i are end in
     record {
-      few = omega (arith, ap length are, length-map read (λ (file : File). file.0));
-      short = subst (All IsShort) whole all.short;
-      small = omega (arith, all.together, ap total whole);
+      fits = record {
+        few = omega (arith, ap length are, length-map read (λ (file : File). file.0));
+        short = subst (All IsShort) whole all.short;
+        small = omega (arith, all.together, ap total whole);
+      };
+      bytes = all.sources small ∙ ap sources_of whole;
     }
 
-pub counted_long : (told : Option (List File)) (paths : List (List ℕ)) (i bytes : ℕ) → length paths ≤ i → 4194304 < bytes → Counted told paths i bytes → IfSome told (λ files. (read : List File) → paths ≡ paths_of read → AreAt files read → All IsShort read × (4194304 < total read))
-counted_long None paths i bytes end long counted = tt
-counted_long (Some files) paths i bytes end long counted = λ read are at.
+pub counted_long : (told : Option (List File)) (paths : List (List ℕ)) (i bytes : ℕ) (kept : List (Vec ℕ Global)) → length paths ≤ i → 4194304 < bytes → Counted told paths i bytes kept → IfSome told (λ files. (read : List File) → paths ≡ paths_of read → AreAt files read → All IsShort read × (4194304 < total read))
+counted_long None paths i bytes kept end long counted = tt
+counted_long (Some files) paths i bytes kept end long counted = λ read are at.
     let all = counted read are at in
     let whole = all_read read paths i are end in
     (subst (All IsShort) whole all.short, omega (arith, all.together, ap total whole))
@@ -161,16 +181,18 @@ StopsAt told kept failed why = IfSome told (λ files. (read : List File) → kep
 few_scripts : (files : List File) (kept : List (List ℕ)) → kept ≡ paths_of (scripts files) → length kept ≤ 1024 → length (scripts files) ≤ 1024
 few_scripts files kept are few = omega (arith, ap length are, length-map (scripts files) (λ (file : File). file.0))
 
-pub told_failed : (told now : Option (List File)) (paths kept : List (List ℕ)) (failed : FailedCall) (path : List ℕ) (stop : Unread) → stop ≡ unread.Failed path → now ≡ told → IsRising paths → IfSome told (λ files. paths ≡ paths_of files) → kept ≡ filter is_script paths → StopsAt now kept failed stop → IfSome told (λ files. (failed ≡ Read (place_of files path)) × Contains (paths_of (scripts files)) path)
-told_failed None now paths kept failed path stop which same rising all is why = tt
-told_failed (Some files) now paths kept failed path stop which same rising all is why =
-    subst (λ (o : Option (List File)). StopsAt o kept failed (unread.Failed path)) same (subst (λ (w : Unread). StopsAt now kept failed w) which why) (scripts files) (kept_are files paths kept all is) (scripts_at files (subst IsRising all rising))
+pub told_failed : (told now : Option (List File)) (paths kept : List (List ℕ)) (failed : FailedCall) (path : List ℕ) (stop : Unread) → stop ≡ unread.Failed path → now ≡ told → IsRising paths → IfSome told (λ files. paths ≡ paths_of files) → kept ≡ filter is_script paths → length kept ≤ 1024 → StopsAt now kept failed stop → IfSome told (λ files. (failed ≡ Read (place_of files path)) × IsReached (scripts files) path)
+told_failed None now paths kept failed path stop which same rising all is few why = tt
+told_failed (Some files) now paths kept failed path stop which same rising all is few why =
+    let are = kept_are files paths kept all is in
+    let (call, before, bytes, after, (parts, short)) = subst (λ (o : Option (List File)). StopsAt o kept failed (unread.Failed path)) same (subst (λ (w : Unread). StopsAt now kept failed w) which why) (scripts files) are (scripts_at files (subst IsRising all rising)) in
+    (call, record { few = few_scripts files kept are few; before = before; bytes = bytes; after = after; split = parts; short = short })
 
 pub told_long_file : (told now : Option (List File)) (paths kept : List (List ℕ)) (failed : FailedCall) (path : List ℕ) (stop : Unread) → stop ≡ unread.LongFile path → now ≡ told → IsRising paths → IfSome told (λ files. paths ≡ paths_of files) → kept ≡ filter is_script paths → length kept ≤ 1024 → StopsAt now kept failed stop → IfSome told (λ files. CheckOutput (scripts files) (codes "too large: file " ++ (path ++ (10 ∷ []))) status.TooLarge)
 told_long_file None now paths kept failed path stop which same rising all is few why = tt
 told_long_file (Some files) now paths kept failed path stop which same rising all is few why =
     let are = kept_are files paths kept all is in
-    let (before, after, bytes, parts, short, long) = subst (λ (o : Option (List File)). StopsAt o kept failed (unread.LongFile path)) same (subst (λ (w : Unread). StopsAt now kept failed w) which why) (scripts files) are (scripts_at files (subst IsRising all rising)) in
+    let (before, bytes, after, (parts, short), long) = subst (λ (o : Option (List File)). StopsAt o kept failed (unread.LongFile path)) same (subst (λ (w : Unread). StopsAt now kept failed w) which why) (scripts files) are (scripts_at files (subst IsRising all rising)) in
     long_file before after (path, bytes) (few_scripts files kept are few) parts short long
 
 pub told_long_project : (told now : Option (List File)) (paths kept : List (List ℕ)) (failed : FailedCall) (stop : Unread) → stop ≡ unread.LongProject → now ≡ told → IsRising paths → IfSome told (λ files. paths ≡ paths_of files) → kept ≡ filter is_script paths → length kept ≤ 1024 → StopsAt now kept failed stop → IfSome told (λ files. CheckOutput (scripts files) (codes "too large: project\n") status.TooLarge)
@@ -180,37 +202,13 @@ told_long_project (Some files) now paths kept failed stop which same rising all 
     let long = subst (λ (o : Option (List File)). StopsAt o kept failed unread.LongProject) same (subst (λ (w : Unread). StopsAt now kept failed w) which why) (scripts files) are (scripts_at files (subst IsRising all rising)) in
     long_project (few_scripts files kept are few) long.0 long.1
 
-judged : (files : List File) (failed : FailedCall) (answer : Answer) → FitsLimits (scripts files) → Judges (paths_of (scripts files)) answer → IsAnswer (CheckOutput (scripts files)) files failed answer
-judged files failed Usage fits judges = absurd judges
-judged files failed ListFault fits judges = absurd judges
-judged files failed (ReadFault path) fits judges = absurd judges
-judged files failed NotBuilt fits judges = absurd judges
-judged files failed (Ran ss) fits judges = absurd judges
-judged files failed TooManyFiles fits judges = absurd judges
-judged files failed (LongFile path) fits judges = absurd judges
-judged files failed LongProject fits judges = absurd judges
-judged files failed Clean fits judges = clean fits
-judged files failed (Faulty faults) fits judges = faulty faults fits judges.0 judges.1
-
-pub told_judged : {E : Type 0} (told now : Option (List File)) (paths kept named : List (List ℕ)) (failed : FailedCall) (r : Result Answer E) → now ≡ told → IsRising paths → IfSome told (λ files. paths ≡ paths_of files) → kept ≡ filter is_script paths → named ≡ kept → IfSome now (λ files. (read : List File) → kept ≡ paths_of read → AreAt files read → FitsLimits read) → IfOk r (Judges named) → IfSome told (λ files. IfOk r (IsAnswer (CheckOutput (scripts files)) files failed))
-told_judged None now paths kept named failed r same rising all is names fits judges = tt
-told_judged (Some files) now paths kept named failed (Err e) same rising all is names fits judges = tt
-told_judged (Some files) now paths kept named failed (Ok answer) same rising all is names fits judges =
+pub told_checked : (told now : Option (List File)) (paths kept : List (List ℕ)) (sources : List (Vec ℕ Global)) (failed : FailedCall) (report : ReportState) → now ≡ told → IsRising paths → IfSome told (λ files. paths ≡ paths_of files) → kept ≡ filter is_script paths → IfSome now (λ files. (read : List File) → kept ≡ paths_of read → AreAt files read → AreRead read sources) → report.paths ≡ kept → Finds (bytes_of sources) report.diags → IfSome told (λ files. IsAnswer (CheckOutput (scripts files)) (IsReached (scripts files)) files failed (Checked report))
+told_checked None now paths kept sources failed report same rising all is fits names finds = tt
+told_checked (Some files) now paths kept sources failed report same rising all is fits names finds =
     let are = kept_are files paths kept all is in
-    let within = subst (λ (o : Option (List File)). IfSome o (λ files. (read : List File) → kept ≡ paths_of read → AreAt files read → FitsLimits read)) same fits (scripts files) are (scripts_at files (subst IsRising all rising)) in
-    judged files failed answer within (subst (λ (list : List (List ℕ)). Judges list answer) (names ∙ are) judges)
-
-pub never_usage : (paths : List (List ℕ)) (answer : Answer) → Judges paths answer → (answer ≢ Usage) × (IsFaultOf answer → ⊥)
-never_usage paths Usage judges = absurd judges
-never_usage paths ListFault judges = absurd judges
-never_usage paths (ReadFault path) judges = absurd judges
-never_usage paths NotBuilt judges = absurd judges
-never_usage paths (Ran ss) judges = absurd judges
-never_usage paths TooManyFiles judges = absurd judges
-never_usage paths (LongFile path) judges = absurd judges
-never_usage paths LongProject judges = absurd judges
-never_usage paths Clean judges = ((λ is. cc), λ none. none)
-never_usage paths (Faulty faults) judges = ((λ is. cc), λ none. none)
+    let read = subst (λ (o : Option (List File)). IfSome o (λ files. (read : List File) → kept ≡ paths_of read → AreAt files read → AreRead read sources)) same fits (scripts files) are (scripts_at files (subst IsRising all rising)) in
+    let found : Finds (sources_of (scripts files)) report.diags = subst (λ (list : List (List ℕ)). Finds list report.diags) read.bytes finds in
+    subst (λ (list : List (List ℕ)). CheckOutput (scripts files) (flat_map (diag_line list) report.diags) (report_status report.diags)) (sym (names ∙ are)) (checked report.diags read.fits found)
 
 -- a whole file has a token
 pub whole_has_token : (file : ℕ) (tokens : List Token) → AreWhole file tokens → 0 < length tokens
@@ -221,14 +219,52 @@ whole_has_token file tokens whole =
     has_last : (front : List Token) (last : Token) → 0 < length (front ++ (last ∷ []))
     has_last front last = omega (arith, length-append front (last ∷ []))
 
+-- where a fault stands in this file
+
+pub of_first : (file : ℕ) (bytes : List ℕ) (pos : Pos) (rule : Rule) → FirstFault file bytes pos rule → pos.file ≡ file
+of_first file bytes pos rule first =
+    let (glyphs, before, gs, ahead, read, cut, breaks, place) = first.broken in
+    ap (λ (p : Pos). p.file) place
+
+pub of_token : (file : ℕ) (tokens : List Token) (k : ℕ) (pos : Pos) (rule : Rule) → AreWhole file tokens → StandsAt tokens k pos rule → pos.file ≡ file
+of_token file tokens k pos rule whole stands =
+    let token = stands.token in
+    let inside : k < length tokens = slice_get_within tokens k token stands.there in
+    let same : get_or tokens k token ≡ token = get_or_from_slice_get tokens k token token stands.there in
+    ap (λ (p : Pos). p.file) stands.place ∙ subst (λ (t : Token). t.pos.file ≡ file) same ((whole.of_file k token inside).0)
+
+-- what the parser finds among the tokens of a file
+
+abbrev AtToken : List Token → Option Diag → Type 0
+AtToken tokens found = IfSome found (λ diag. (k : ℕ) × StandsAt tokens k diag.pos diag.rule)
+
+finds_at : (file : ℕ) (bytes : List ℕ) (tokens : List Token) (found : Option Diag) → Lexes file bytes tokens → AtToken tokens found → FileFinds file bytes found
+finds_at file bytes tokens None lexes is = nothing tokens lexes
+finds_at file bytes tokens (Some diag) lexes is = syntax diag tokens is.0 lexes is.1
+
+pub parser_finds : {E : Type 0} (file : ℕ) (bytes : List ℕ) (tokens given : List Token) (r : Result (Option Diag) E) → given ≡ tokens → Lexes file bytes tokens → IfOk r (λ found. AtToken given found) → IfOk r (FileFinds file bytes)
+parser_finds file bytes tokens given (Err e) same lexes is = tt
+parser_finds file bytes tokens given (Ok found) same lexes is = finds_at file bytes tokens found lexes (subst (λ (list : List Token). AtToken list found) same is)
+
+in_file : (file : ℕ) (tokens : List Token) (found : Option Diag) → AreWhole file tokens → AtToken tokens found → IfSome found (λ diag. diag.pos.file ≡ file)
+in_file file tokens None whole is = tt
+in_file file tokens (Some diag) whole is = of_token file tokens is.0 diag.pos diag.rule whole is.1
+
+pub parser_in : {E : Type 0} (file : ℕ) (tokens given : List Token) (r : Result (Option Diag) E) → given ≡ tokens → AreWhole file tokens → IfOk r (λ found. AtToken given found) → IfOk r (λ found. IfSome found (λ diag. diag.pos.file ≡ file))
+parser_in file tokens given (Err e) same whole is = tt
+parser_in file tokens given (Ok found) same whole is = in_file file tokens found whole (subst (λ (list : List Token). AtToken list found) same is)
+
+-- what the lexer refuses is the first lexical fault
+pub lexical_of : (file : ℕ) (bytes : List ℕ) (answer : LexFault) (pos at : Pos) (rule broken : Rule) → answer ≡ Fault at broken → pos ≡ at → rule ≡ broken → IsFirstFault file bytes answer → FileFinds file bytes (Some (record { pos = pos; rule = rule }))
+lexical_of file bytes answer pos at rule broken is place by first =
+    let there : FirstFault file bytes at broken = subst (IsFirstFault file bytes) is first in
+    lexical (record { pos = pos; rule = rule }) (subst (λ (p : Pos). FirstFault file bytes p rule) (sym place) (subst (λ (r : Rule). FirstFault file bytes at r) (sym by) there))
+
 -- what was read of a file
 
-pub found_script : (told : Option (List File)) (path named : List ℕ) (source : Vec ℕ Global) → named ≡ path → IfSome told (λ files. Reads files path 1048576 source.items) → length source.items ≤ 1048576 → IfSome told (λ files. IsFileAt files path (record { path = named; source = source }))
-found_script None path named source same reads short = tt
-found_script (Some files) path named source same (bytes, at, found) short = record {
-  named = same;
-  bytes = at ∙ ap Some (sym (whole bytes source.items found short));
-}
+pub found_source : (told : Option (List File)) (path found : List ℕ) → IfSome told (λ files. Reads files path 1048576 found) → length found ≤ 1048576 → IfSome told (λ files. bytes_at files path ≡ Some found)
+found_source None path found reads short = tt
+found_source (Some files) path found (bytes, at, is) short = at ∙ ap Some (sym (whole bytes found is short))
   where
     whole : (bytes found : List ℕ) → found ≡ take 1048577 bytes → length found ≤ 1048576 → found ≡ bytes
     whole bytes found is short = elim (cases_lt (length bytes) 1048577) [
@@ -261,10 +297,19 @@ pub free_of : (told : Option (List File)) (paths : List (List ℕ)) → IfSome t
 free_of None paths = tt
 free_of (Some files) paths = λ read are at. tt
 
-pub one_with_path : (faults more : List FileFault) (paths : List (List ℕ)) (path : List ℕ) (fault : FileFault) → more ≡ faults ++ (fault ∷ []) → fault.path ≡ path → IsOneEach faults paths → IsOneEach more (paths ++ (path ∷ []))
-one_with_path faults more paths path fault is same each = subst (λ (list : List FileFault). IsOneEach list (paths ++ (path ∷ []))) (sym is) (subst (λ (p : List ℕ). IsOneEach (faults ++ (fault ∷ [])) (paths ++ (p ∷ []))) same (one_with faults paths fault each))
+-- one more was kept
+pub one_longer : {X : Type 0} (kept more : List X) (x : X) (n : ℕ) → more ≡ kept ++ (x ∷ []) → length kept ≡ n → length more ≡ n + 1
+one_longer kept more x n added is = omega (arith, ap length added, length-append kept (x ∷ []))
 
--- one more script was kept
-pub named_more : (kept more : List Script) (paths : List (List ℕ)) (path : List ℕ) (i : ℕ) (script : Script) → i < length paths → path ≡ get_or paths i path → more ≡ kept ++ (script ∷ []) → script.path ≡ path → script_paths kept ≡ take i paths → script_paths more ≡ take (i + 1) paths
-named_more kept more paths path i script lt is added named before =
-    ap script_paths added ∙ map-append (λ (s : Script). s.path) kept (script ∷ []) ∙ ap (λ front. front ++ (script.path ∷ [])) before ∙ ap (λ (p : List ℕ). take i paths ++ (p ∷ [])) (named ∙ is) ∙ sym (take_more paths i path lt)
+-- what one more file adds
+
+pub finds_none : (sources : List (List ℕ)) (diags : List Diag) (bytes : List ℕ) (file : ℕ) (found : Option Diag) → found ≡ None → FileFinds file bytes found → file ≡ length sources → Finds sources diags → Finds (sources ++ (bytes ∷ [])) diags
+finds_none sources diags bytes file found none finds is so =
+    clean_file sources diags bytes so (subst (λ (n : ℕ). FileFinds n bytes None) is (subst (FileFinds file bytes) none finds))
+
+pub finds_one : (sources : List (List ℕ)) (diags more : List Diag) (bytes : List ℕ) (file : ℕ) (found : Option Diag) (diag : Diag) → found ≡ Some diag → more ≡ diags ++ (diag ∷ []) → FileFinds file bytes found → file ≡ length sources → Finds sources diags → Finds (sources ++ (bytes ∷ [])) more
+finds_one sources diags more bytes file found diag some added finds is so =
+    subst (Finds (sources ++ (bytes ∷ []))) (sym added) (faulty_file sources diags bytes diag so (subst (λ (n : ℕ). FileFinds n bytes (Some diag)) is (subst (FileFinds file bytes) some finds)))
+
+pub none_in : (file : ℕ) (diags : List Diag) → diags ≡ [] → All (λ (diag : Diag). diag.pos.file < file) diags
+none_in file diags none = subst (All (λ (diag : Diag). diag.pos.file < file)) (sym none) (λ k d lt. absurd (omega arith))

@@ -4,4 +4,5 @@ mod Close
 mod LinesLemmas
 mod PutsLemmas
 mod RunLemmas
+mod StreamLemmas
 mod WordsLemmas

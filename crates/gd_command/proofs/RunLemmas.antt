@@ -1,11 +1,10 @@
 -- What `run` of a project answers, from the paths that it lists and the source that it reads.
-use Rattle.std.proofs.Common.{◌≡◌, ◌≤◌, ◌<◌, ◌*◌, ◌^◌, ℕ, suc, List, [], ◌∷◌, ◌++◌, length, take, filter, nat_eq, codes, decimal, bytes_eq, Bool, true, false, cond, Option, Some, None, refl, sym, ap, subst, ◌∙◌, arith, inl, inr, length-append, All, encode_utf8_all, IfSome, IfOk, Result, Ok, Err, Contains}
+use Rattle.std.proofs.Common.{◌≡◌, ◌≤◌, ◌<◌, ◌*◌, ◌^◌, ℕ, suc, List, [], ◌∷◌, ◌++◌, length, take, filter, nat_eq, codes, decimal, bytes_eq, Bool, true, false, cond, Option, Some, None, refl, sym, ap, subst, ◌∙◌, arith, inl, inr, length-append, All, IfSome, IfOk, Result, Ok, Err}
 use Rattle.std.specs.List.{ends_with, flat_map}
 use Rattle.std.proofs.lemmas.Bool.{false≢true, cases_Bool, cases_lt}
 use Rattle.std.proofs.lemmas.List.{take_all, length-take-le}
 use Rattle.std.proofs.lemmas.Slice.Eq.{bytes_eq-Decides}
-use Rattle.std.proofs.lemmas.Str.{encodes-IsAscii}
-use Rattle.std.proofs.lemmas.Fmt.{length-decimal-le, IsAscii-decimal}
+use Rattle.std.proofs.lemmas.Fmt.{length-decimal-le}
 use Rattle.gd_outside.specs.Files.{File, paths_of, bytes_at, Reads, place_of}
 use Rattle.gd_outside.specs.declared.shelf.FailedCall.{FailedCall}
 use Rattle.gd_outside.specs.declared.shelf.FailedCall.TheVariants.{Read}
@@ -16,10 +15,11 @@ use Rattle.gd_meaning.specs.declared.Statement.{Statement}
 use Rattle.gd_meaning.specs.declared.Statement.TheVariants.{Pass, Print}
 use Rattle.gd_meaning.specs.Source.{Fits, line_of, IsSource}
 use Rattle.gd_meaning.specs.Run.{events_of}
-use Rattle.gd_command.specs.Output.{scripts, IsScript, RunOutput, ran, not_built, printed}
-use Rattle.gd_command.specs.Answer.{IsAnswer, RunsSource, printed_of}
+use Rattle.gd_command.specs.Output.{scripts, IsScript, RunOutput, ran, not_built}
+use Rattle.gd_command.specs.Call.{IsOnly}
+use Rattle.gd_command.specs.Answer.{IsAnswer, RunsSource}
 use Rattle.gd_command.specs.declared.answer.Answer.{Answer}
-use Rattle.gd_command.specs.declared.answer.Answer.TheVariants.{Usage, ListFault, ReadFault, NotBuilt, Ran, TooManyFiles, LongFile, LongProject, Clean, Faulty}
+use Rattle.gd_command.specs.declared.answer.Answer.TheVariants.{Usage, ListFault, ReadFault, NotBuilt, Runs, TooManyFiles, LongFile, LongProject, Checked}
 use Rattle.gd_command.specs.declared.status.Status.TheVariants as status
 
 abbrev pub is_script : List ℕ → Bool
@@ -108,25 +108,15 @@ whole bytes found is short = elim (cases_lt (length bytes) 1048577) [
   | inr more ↦ let long = ap length is ∙ length-take-le 1048577 bytes more in absurd (omega arith)
 ]
 
-printed-run : (ss : List Statement) → All Fits ss → flat_map printed (flat_map events_of ss) ≡ flat_map printed_of ss
-printed-run [] fits = refl
-printed-run (Pass ∷ ss) fits = printed-run ss (λ k d lt. fits (suc k) d (omega arith))
-printed-run (Print n ∷ ss) fits =
-    let small : n < 2 ^ 63 = fits 0 (Print n) (omega arith) in
-    let digits : encode_utf8_all (decimal n) ≡ decimal n = encodes-IsAscii (decimal n) (IsAscii-decimal n (omega arith)) in
-    let rest = printed-run ss (λ k d lt. fits (suc k) d (omega arith)) in
-    ap (λ text. (text ++ (10 ∷ [])) ++ flat_map printed (flat_map events_of ss)) digits ∙ ap (λ text. (decimal n ++ (10 ∷ [])) ++ text) rest
-
 -- what the source that was read answers is what the project answers
-source-answers : (files : List File) (main : List ℕ) (kept : List (List ℕ)) (found : List ℕ) (failed : FailedCall) (answer : Answer) → kept ≡ filter is_script (paths_of files) → kept ≡ main ∷ [] → Reads files main 1048576 found → RunsSource found answer → IsAnswer (RunOutput files main) files failed answer
+source-answers : (files : List File) (main : List ℕ) (kept : List (List ℕ)) (found : List ℕ) (failed : FailedCall) (answer : Answer) → kept ≡ filter is_script (paths_of files) → kept ≡ main ∷ [] → Reads files main 1048576 found → RunsSource found answer → IsAnswer (RunOutput files main) (IsOnly (scripts files) main) files failed answer
 source-answers files main kept found failed Usage is alone reads runs = absurd runs
 source-answers files main kept found failed ListFault is alone reads runs = absurd runs
 source-answers files main kept found failed (ReadFault path) is alone reads runs = absurd runs
 source-answers files main kept found failed TooManyFiles is alone reads runs = absurd runs
 source-answers files main kept found failed (LongFile path) is alone reads runs = absurd runs
 source-answers files main kept found failed LongProject is alone reads runs = absurd runs
-source-answers files main kept found failed Clean is alone reads runs = absurd runs
-source-answers files main kept found failed (Faulty faults) is alone reads runs = absurd runs
+source-answers files main kept found failed (Checked report) is alone reads runs = absurd runs
 source-answers files main kept found failed NotBuilt is alone (bytes, at, taken) none =
     not_built (λ ss script.
     let there : Some script.source ≡ Some bytes = sym (script-found files main script.source script.alone) ∙ at in
@@ -135,14 +125,14 @@ source-answers files main kept found failed NotBuilt is alone (bytes, at, taken)
     let short = length-source bytes ss reads in
     let all : found ≡ bytes = taken ∙ take_all 1048577 bytes (omega arith) in
     none ss (subst (λ text. IsSource text ss) (sym all) reads))
-source-answers files main kept found failed (Ran ss) is alone (bytes, at, taken) reads =
+source-answers files main kept found failed (Runs ss) is alone (bytes, at, taken) reads =
     let paths : paths_of (scripts files) ≡ main ∷ [] = sym (is ∙ filter-paths files) ∙ alone in
     let only = script-alone (scripts files) main paths in
     let there : Some only.0 ≡ Some bytes = sym (script-found files main only.0 only.1) ∙ at in
     let same : only.0 ≡ bytes = cc in
     let all : found ≡ bytes = whole bytes found taken (length-source found ss reads) in
     let script : IsScript files main ss = record { source = only.0; alone = only.1; reads = subst (λ text. IsSource text ss) (all ∙ sym same) reads } in
-    subst (λ text. RunOutput files main text status.Done) (printed-run ss reads.fits) (ran ss (flat_map events_of ss) script (record { seen = refl; ended = refl }))
+    ran ss (flat_map events_of ss) script (record { seen = refl; ended = refl })
 
 -- over a shelf that tells its files
 
@@ -150,17 +140,18 @@ pub told-not_alone : (told : Option (List File)) (main : List ℕ) (paths kept :
 told-not_alone None main paths kept all is other = tt
 told-not_alone (Some files) main paths kept all is other = not_alone files main kept (is ∙ ap (filter is_script) all) other
 
-pub told-source : {E : Type 0} (told now : Option (List File)) (main : List ℕ) (paths kept : List (List ℕ)) (found : List ℕ) (failed : FailedCall) (r : Result Answer E) → now ≡ told → IfSome told (λ files. paths ≡ paths_of files) → kept ≡ filter is_script paths → kept ≡ main ∷ [] → IfSome now (λ files. Reads files main 1048576 found) → IfOk r (RunsSource found) → IfSome told (λ files. IfOk r (IsAnswer (RunOutput files main) files failed))
+pub told-source : {E : Type 0} (told now : Option (List File)) (main : List ℕ) (paths kept : List (List ℕ)) (found : List ℕ) (failed : FailedCall) (r : Result Answer E) → now ≡ told → IfSome told (λ files. paths ≡ paths_of files) → kept ≡ filter is_script paths → kept ≡ main ∷ [] → IfSome now (λ files. Reads files main 1048576 found) → IfOk r (RunsSource found) → IfSome told (λ files. IfOk r (IsAnswer (RunOutput files main) (IsOnly (scripts files) main) files failed))
 told-source None now main paths kept found failed r same all is alone reads runs = tt
 told-source (Some files) now main paths kept found failed (Err e) same all is alone reads runs = tt
 told-source (Some files) now main paths kept found failed (Ok answer) same all is alone reads runs =
     source-answers files main kept found failed answer (is ∙ ap (filter is_script) all) alone (subst (λ (o : Option (List File)). IfSome o (λ files. Reads files main 1048576 found)) same reads) runs
 
-pub told-read_fault : {T : Type 0} (told now : Option (List File)) (main : List ℕ) (paths kept : List (List ℕ)) (before failed : FailedCall) (r : Result T ShelfFault) → r ≡ Err Failed → now ≡ told → IfSome told (λ files. paths ≡ paths_of files) → kept ≡ filter is_script paths → kept ≡ main ∷ [] → IfSome now (λ files. failed ≡ failed_after r before (Read (place_of files main))) → IfSome told (λ files. (failed ≡ Read (place_of files main)) × Contains (paths_of (scripts files)) main)
+pub told-read_fault : {T : Type 0} (told now : Option (List File)) (main : List ℕ) (paths kept : List (List ℕ)) (before failed : FailedCall) (r : Result T ShelfFault) → r ≡ Err Failed → now ≡ told → IfSome told (λ files. paths ≡ paths_of files) → kept ≡ filter is_script paths → kept ≡ main ∷ [] → IfSome now (λ files. failed ≡ failed_after r before (Read (place_of files main))) → IfSome told (λ files. (failed ≡ Read (place_of files main)) × IsOnly (scripts files) main main)
 told-read_fault None now main paths kept before failed r answer same all is alone call = tt
 told-read_fault (Some files) now main paths kept before failed r answer same all is alone call =
     let names : paths_of (scripts files) ≡ main ∷ [] = sym (is ∙ ap (filter is_script) all ∙ filter-paths files) ∙ alone in
-    let last : failed ≡ failed_after r before (Read (place_of files main)) = subst (λ (o : Option (List File)). IfSome o (λ files. failed ≡ failed_after r before (Read (place_of files main)))) same call in (
+    let last : failed ≡ failed_after r before (Read (place_of files main)) = subst (λ (o : Option (List File)). IfSome o (λ files. failed ≡ failed_after r before (Read (place_of files main)))) same call in
+    let only = script-alone (scripts files) main names in (
       last ∙ ap (λ answered. failed_after answered before (Read (place_of files main))) answer,
-      subst (λ (list : List (List ℕ)). Contains list main) (sym names) (0, omega arith, refl),
+      record { source = only.0; alone = only.1; same = refl },
     )

@@ -1,26 +1,54 @@
 -- What a call of the program leaves in its sink.
-use Rattle.std.specs.Prelude.{◌≡◌, ℕ, List, [], ◌∷◌, ◌++◌, take, codes, Option, Some, IfSome, Contains}
-use Rattle.gd_outside.specs.Files.{File, place_of, paths_of}
+use Rattle.std.specs.Prelude.{◌≡◌, ◌≤◌, ℕ, List, [], ◌∷◌, ◌++◌, take, length, codes, Option, All}
+use Rattle.gd_outside.specs.Files.{File, place_of}
+use Rattle.gd_outside.specs.Sink.{Appends}
 use Rattle.gd_outside.specs.declared.shelf.FailedCall.{FailedCall}
 use Rattle.gd_outside.specs.declared.shelf.FailedCall.TheVariants.{List as Listing, Read}
-use Rattle.gd_command.specs.Output.{Output, scripts}
+use Rattle.gd_command.specs.Output.{Output, IsShort, scripts}
+use Rattle.gd_command.specs.Words.{Means}
+use Rattle.gd_command.specs.declared.words.Command.{Command}
+use Rattle.gd_command.specs.declared.words.Command.TheVariants.{Check, Run}
 use Rattle.gd_command.specs.declared.status.Status.{Status}
 use Rattle.gd_command.specs.declared.status.Status.TheVariants.{Done, Faulty, Usage, RunError, OutOfTurns, ReadFault, WriteFault, NoMemory, TooLarge, NoMain, BadImage, NotBuilt, Refused, SuiteFailed}
 
--- the line that names the call of the shelf that failed last: the list, or the read of a script
-pub data NamesFault (files : List File) (failed : FailedCall) : List ℕ → Type 0 where
-  list_failed : failed ≡ Listing → NamesFault files failed (codes "read fault: list\n")
-  read_failed : (path : List ℕ) → failed ≡ Read (place_of files path) → Contains (paths_of (scripts files)) path → NamesFault files failed (codes "read fault: " ++ (path ++ (10 ∷ [])))
+-- a check comes to the script with this path: there are not too many scripts, and none before it is too long
+pub record IsReached (scripts : List File) (path : List ℕ) : Type 0 where
+  pub few : length scripts ≤ 1024
+  pub before : List File
+  pub bytes : List ℕ
+  pub after : List File
+  pub split : scripts ≡ before ++ ((path, bytes) ∷ after)
+  pub short : All IsShort before
+
+-- the only script has the path MAIN, and this is that path
+pub record IsOnly (scripts : List File) (main path : List ℕ) : Type 0 where
+  pub source : List ℕ
+  pub alone : scripts ≡ (main, source) ∷ []
+  pub same : path ≡ main
+
+-- the scripts that a command reads
+abbrev pub Reads : List File → Command → List ℕ → Type 0
+Reads files Check path = IsReached (scripts files) path
+Reads files (Run main) path = IsOnly (scripts files) main path
+
+-- the words are a command that reads the script with this path
+abbrev pub WordsRead : List (List ℕ) → List File → List ℕ → Type 0
+WordsRead words files path = (command : Command) × Means words command × Reads files command path
+
+-- the line that names the call of the shelf that failed last: the list, or a read that the words come to
+pub data NamesFault (words : List (List ℕ)) (files : List File) (failed : FailedCall) : List ℕ → Type 0 where
+  list_failed : failed ≡ Listing → NamesFault words files failed (codes "read fault: list\n")
+  read_failed : (path : List ℕ) → failed ≡ Read (place_of files path) → WordsRead words files path → NamesFault words files failed (codes "read fault: " ++ (path ++ (10 ∷ [])))
 
 -- the text is nothing yet, or the front of a text that the words write, or of a read fault's line where the shelf failed
 pub data IsBegun (words : List (List ℕ)) (files : List File) (failed : FailedCall) (rose : Type 0) : List ℕ → Type 0 where
   nothing : IsBegun words files failed rose []
   output_begun : (whole : List ℕ) (status : Status) (k : ℕ) → Output words files whole status → IsBegun words files failed rose (take k whole)
-  fault_begun : (line : List ℕ) (k : ℕ) → NamesFault files failed line → rose → IsBegun words files failed rose (take k line)
+  fault_begun : (line : List ℕ) (k : ℕ) → NamesFault words files failed line → rose → IsBegun words files failed rose (take k line)
 
 -- the text that a call writes, by its status; `rose` says that the shelf failed in the call
 abbrev pub Writes : List (List ℕ) → List File → FailedCall → Type 0 → Status → List ℕ → Type 0
-Writes words files failed rose ReadFault text = NamesFault files failed text
+Writes words files failed rose ReadFault text = NamesFault words files failed text
 Writes words files failed rose WriteFault text = IsBegun words files failed rose text
 Writes words files failed rose NoMemory text = IsBegun words files failed rose text
 Writes words files failed rose Done text = Output words files text Done
@@ -35,6 +63,13 @@ Writes words files failed rose NotBuilt text = Output words files text NotBuilt
 Writes words files failed rose Refused text = Output words files text Refused
 Writes words files failed rose SuiteFailed text = Output words files text SuiteFailed
 
--- where the sink tells its bytes, the call appended such a text
-abbrev pub Adds : Option (List ℕ) → Option (List ℕ) → (List ℕ → Type 0) → Type 0
-Adds before after P = IfSome before (λ held. (text : List ℕ) × (after ≡ Some (held ++ text)) × P text)
+-- the call wrote such a text: where the sink tells its bytes, it is appended
+abbrev pub Answers : List (List ℕ) → List File → FailedCall → Type 0 → Status → Option (List ℕ) → Option (List ℕ) → Type 0
+Answers words files failed rose status before after = (text : List ℕ) × Writes words files failed rose status text × Appends before text after
+
+-- the answers to words that are no form: the usage line, unless it could not be written or memory ran out
+abbrev pub IsUsageAnswer : Status → Type 0
+IsUsageAnswer Usage = Unit {0}
+IsUsageAnswer WriteFault = Unit {0}
+IsUsageAnswer NoMemory = Unit {0}
+IsUsageAnswer _ = ⊥

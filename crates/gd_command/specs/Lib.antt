@@ -5,4 +5,7 @@ pub mod Close
 pub mod Lines
 pub mod Output
 pub mod Puts
+pub mod Report
+pub mod Steps
+pub mod Stream
 pub mod Words

@@ -1,5 +1,5 @@
 -- What a call of the program writes where nothing fails, and the status that it then answers.
-use Rattle.std.specs.Prelude.{◌≡◌, ◌≢◌, ◌≤◌, ◌<◌, ℕ, List, [], ◌∷◌, ◌++◌, length, All, codes, decimal, filter, nat_eq, encode_utf8_all}
+use Rattle.std.specs.Prelude.{◌≡◌, ◌≤◌, ◌<◌, ℕ, List, [], ◌∷◌, ◌++◌, length, map, All, codes, filter, nat_eq, encode_utf8_all}
 use Rattle.std.specs.List.{flat_map, ends_with, sum_by}
 use Rattle.gd_outside.specs.Files.{File, paths_of}
 use Rattle.gd_model.specs.declared.event.Event.{Event}
@@ -8,13 +8,17 @@ use Rattle.gd_model.specs.declared.outcome.Outcome.TheVariants.{Done as RunDone}
 use Rattle.gd_meaning.specs.declared.Statement.{Statement}
 use Rattle.gd_meaning.specs.Source.{IsSource}
 use Rattle.gd_meaning.specs.Run.{Run as Runs}
-use Rattle.gd_rules.specs.Rule.{rule_code, rule_text}
-use Rattle.gd_command.specs.declared.answer.FileFault.{FileFault}
+use Rattle.gd_rules.specs.declared.diag.Diag.{Diag}
+use Rattle.gd_command.specs.Report.{Finds, diag_line, report_status}
 use Rattle.gd_command.specs.Words.{Means}
 use Rattle.gd_command.specs.declared.words.Command.{Command}
 use Rattle.gd_command.specs.declared.words.Command.TheVariants.{Check, Run}
 use Rattle.gd_command.specs.declared.status.Status.{Status}
-use Rattle.gd_command.specs.declared.status.Status.TheVariants.{Done, Faulty, Usage, TooLarge, NotBuilt}
+use Rattle.gd_command.specs.declared.status.Status.TheVariants.{Done, Usage, TooLarge, NotBuilt}
+
+-- the bytes of the files, in their order
+abbrev pub sources_of : List File → List (List ℕ)
+sources_of files = map (λ file. file.1) files
 
 -- the files whose names end in `.gd`
 abbrev pub scripts : List File → List File
@@ -37,16 +41,6 @@ pub data RunOutput (files : List File) (main : List ℕ) : List ℕ → Status �
   ran : (statements : List Statement) (events : List Event) → IsScript files main statements → Runs statements events RunDone → RunOutput files main (flat_map printed events) Done
   not_built : ((statements : List Statement) → IsScript files main statements → ⊥) → RunOutput files main (codes "not built\n") NotBuilt
 
--- the line of a fault: its place and the rule's code and text
-abbrev pub fault_line : FileFault → List ℕ
-fault_line fault = fault.path ++ ((58 ∷ decimal fault.diag.pos.line) ++ ((58 ∷ decimal fault.diag.pos.column) ++ (codes ": error " ++ (rule_code fault.diag.rule ++ (codes ": " ++ (rule_text fault.diag.rule ++ (10 ∷ [])))))))
-
--- the faults are of files with these paths, in their order, at most one of each
-pub data IsOneEach : List FileFault → List (List ℕ) → Type 0 where
-  none : IsOneEach [] []
-  without : (faults : List FileFault) (path : List ℕ) (paths : List (List ℕ)) → IsOneEach faults paths → IsOneEach faults (path ∷ paths)
-  with_fault : (fault : FileFault) (faults : List FileFault) (paths : List (List ℕ)) → IsOneEach faults paths → IsOneEach (fault ∷ faults) (fault.path ∷ paths)
-
 -- the bytes of a file are within the limit of one
 abbrev pub IsShort : File → Type 0
 IsShort file = length file.1 ≤ 1048576
@@ -61,13 +55,12 @@ pub record FitsLimits (scripts : List File) : Type 0 where
   pub short : All IsShort scripts
   pub small : total scripts ≤ 4194304
 
--- `check` of these scripts: the first limit that is passed, else a line for each script in which a fault was found
+-- `check` of these scripts: the first limit that is passed, else a line for each place that was found
 pub data CheckOutput (scripts : List File) : List ℕ → Status → Type 0 where
   many_files : 1024 < length scripts → CheckOutput scripts (codes "too large: files\n") TooLarge
   long_file : (before after : List File) (file : File) → length scripts ≤ 1024 → scripts ≡ before ++ (file ∷ after) → All IsShort before → 1048576 < length file.1 → CheckOutput scripts (codes "too large: file " ++ (file.0 ++ (10 ∷ []))) TooLarge
   long_project : length scripts ≤ 1024 → All IsShort scripts → 4194304 < total scripts → CheckOutput scripts (codes "too large: project\n") TooLarge
-  clean : FitsLimits scripts → CheckOutput scripts [] Done
-  faulty : (faults : List FileFault) → FitsLimits scripts → faults ≢ [] → IsOneEach faults (paths_of scripts) → CheckOutput scripts (flat_map fault_line faults) Faulty
+  checked : (diags : List Diag) → FitsLimits scripts → Finds (sources_of scripts) diags → CheckOutput scripts (flat_map (diag_line (paths_of scripts)) diags) (report_status diags)
 
 -- what a command writes
 abbrev pub CommandOutput : List File → Command → List ℕ → Status → Type 0

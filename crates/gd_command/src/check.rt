@@ -1,21 +1,26 @@
 //! `check`: reads the scripts of the project and finds their faults.
-ghost use Rattle.std.specs.Prelude.{◌≡◌, ◌≢◌, ◌≤◌, ◌<◌, ◌++◌, ◌∷◌, [], ℕ, List, All, IfOk, IfErr, IfSome, OnOk, MatchResult, length};
+ghost use Rattle.std.specs.Prelude.{◌≡◌, ◌≢◌, ◌≤◌, ◌<◌, ◌+◌, ◌++◌, ◌∷◌, [], ℕ, List, All, IfOk, IfErr, IfSome, Some, OnOk, MatchResult, length};
 ghost use Rattle.gd_outside.specs.Cause.{Rose};
-ghost use Rattle.gd_outside.specs.Files.{File, paths_of};
-ghost use Rattle.gd_command.specs.Output.{CheckOutput, FitsLimits, IsOneEach, scripts as scripts_of};
+ghost use Rattle.gd_outside.specs.Files.{File, bytes_at, paths_of};
+ghost use Rattle.gd_grammar.specs.Fault.{StandsAt};
+ghost use Rattle.gd_rules.specs.declared.diag.Diag.{Diag};
+ghost use Rattle.gd_command.specs.Output.{CheckOutput, scripts as scripts_of};
+ghost use Rattle.gd_command.specs.Report.{FileFinds, Finds};
 ghost use Rattle.gd_command.specs.Answer.{IsAnswer, IsFaultOf};
-ghost use Rattle.gd_command.specs.Check.{AreAt, Hinders, IsFailed, IsFileAt, IsShortScript, Judges, Stops, script_paths};
+ghost use Rattle.gd_command.specs.Call.{IsReached};
+ghost use Rattle.gd_command.specs.Check.{AreAt, AreRead, Hinders, IsFailed, IsShortSource, Stops, bytes_of};
 ghost use Rattle.gd_command.specs.declared.answer.Answer.{Answer};
 ghost use Rattle.gd_command.specs.declared.answer.Answer.TheVariants.{Usage};
 ghost use Rattle.gd_command.specs.declared.check.Unread.TheVariants.{NoMemory as UnreadNoMemory};
 
-use crate::answer::{Answer, FileFault};
+use crate::answer::Answer;
 use crate::project::{MAX_SOURCE, keep_scripts};
+use crate::report::Report;
 use gd_grammar::{SyntaxFault, parse};
 use gd_lexer::{LexFault, lex};
-use gd_rules::Diag;
 use gd_outside::{Path, Shelf, ShelfFault};
-use gd_syntax::{Seq, Token};
+use gd_rules::Diag;
+use gd_syntax::Token;
 use no_memory::NoMemory;
 use std::alloc::{AllocError, AllocFailed, Global};
 
@@ -24,13 +29,6 @@ const MAX_FILES: usize = 1024;
 
 /// The most bytes that the scripts of a project have together.
 const MAX_PROJECT: usize = 4_194_304;
-
-/// A script that was read.
-#[derive(Drop)]
-struct Script {
-    path: Path,
-    source: Vec<u8>,
-}
 
 /// Why the scripts were not read.
 #[derive(Drop)]
@@ -62,7 +60,7 @@ impl<T: Drop> From<AllocFailed<T>> for Unread {
 
 /// What `check` of the project answers.
 pub fn check<H: Shelf>(alloc: Global, shelf: &mut H) -> Result<Answer, NoMemory>
-    ensures told { IfSome (H.files shelf.old) (λ files. IfOk result (IsAnswer (CheckOutput (scripts_of files)) files (H.failed shelf.new))) }
+    ensures told { IfSome (H.files shelf.old) (λ files. IfOk result (IsAnswer (CheckOutput (scripts_of files)) (IsReached (scripts_of files)) files (H.failed shelf.new))) }
     ensures no_usage { IfOk result (λ answer. answer ≢ Usage) }
     ensures faults { H.faults shelf.old ≤ H.faults shelf.new }
     ensures cause { IfOk result (λ answer. IsFaultOf answer → Rose (H.faults shelf.old) (H.faults shelf.new)) }
@@ -77,7 +75,7 @@ pub fn check<H: Shelf>(alloc: Global, shelf: &mut H) -> Result<Answer, NoMemory>
         return Ok(Answer::TooManyFiles);
     }
     match read_scripts(alloc, &paths, shelf) {
-        Ok(scripts) => judge(alloc, &scripts),
+        Ok(sources) => Ok(Answer::Checked(judge(alloc, paths, &sources)?)),
         Err(Unread::Failed(path)) => Ok(Answer::ReadFault(path)),
         Err(Unread::LongFile(path)) => Ok(Answer::LongFile(path)),
         Err(Unread::LongProject) => Ok(Answer::LongProject),
@@ -85,122 +83,119 @@ pub fn check<H: Shelf>(alloc: Global, shelf: &mut H) -> Result<Answer, NoMemory>
     }
 }
 
-/// The scripts with these paths, in their order. Past the limit on all of them none is kept, but each is read.
+/// The bytes of the scripts with these paths, in their order. Past the limit on all of them none are kept, but each script
+/// is read.
 fn read_scripts<H: Shelf>(
     alloc: Global,
     paths: &[Path],
     shelf: &mut H,
-) -> Result<Vec<Script>, Unread>
+) -> Result<Vec<Vec<u8>>, Unread>
     requires few { length paths.now ≤ 1024 }
     ensures told { IfSome (H.files shelf.old) (λ files. (read : List File) → paths.now ≡ paths_of read → AreAt files read →
-        MatchResult result (λ _. FitsLimits read) (Stops files read (H.failed shelf.new))) }
-    ensures paths { IfOk result (λ scripts. script_paths scripts.items ≡ paths.now) }
-    ensures short { IfOk result (λ scripts. All IsShortScript scripts.items) }
+        MatchResult result (λ sources. AreRead read sources.items) (Stops files read (H.failed shelf.new))) }
+    ensures count { IfOk result (λ sources. length sources.items ≡ length paths.now) }
+    ensures short { IfOk result (λ sources. All IsShortSource sources.items) }
     ensures faults { H.faults shelf.old ≤ H.faults shelf.new }
     ensures cause { IfErr result (λ unread. IsFailed unread → Rose (H.faults shelf.old) (H.faults shelf.new)) }
 {
-    let mut scripts = Vec::new(alloc);
+    let mut sources = Vec::new(alloc);
     let mut total = 0;
     for path in paths {
-        let script = match read_script(alloc, path, shelf) {
-            Ok(script) => script,
+        let source = match read_script(alloc, path, shelf) {
+            Ok(source) => source,
             Err(unread) => return Err(unread),
         };
-        total += script.source.len();
-        keep(&mut scripts, script, total)?;
+        total += source.len();
+        keep(&mut sources, source, total)?;
     }
     if total > MAX_PROJECT {
         return Err(Unread::LongProject);
     }
-    Ok(scripts)
+    Ok(sources)
 }
 
-/// Keeps one more script, where this many bytes of all so far are within the limit.
-fn keep(scripts: &mut Vec<Script>, script: Script, total: usize) -> Result<(), Unread>
-    ensures kept { OnOk result (total ≤ 4_194_304 → scripts.new.items ≡ scripts.old.items ++ (script ∷ [])) }
-    ensures short { OnOk result (IsShortScript script → All IsShortScript scripts.old.items → All IsShortScript scripts.new.items) }
+/// Keeps the bytes of one more script, where this many of all so far are within the limit.
+fn keep(sources: &mut Vec<Vec<u8>>, source: Vec<u8>, total: usize) -> Result<(), Unread>
+    ensures kept { OnOk result (total ≤ 4_194_304 → sources.new.items ≡ sources.old.items ++ (source ∷ [])) }
+    ensures short { OnOk result (IsShortSource source → All IsShortSource sources.old.items → All IsShortSource sources.new.items) }
     ensures no_memory { IfErr result (λ unread. unread ≡ UnreadNoMemory) }
 {
     if total > MAX_PROJECT {
         return Ok(());
     }
-    scripts.push(script)?;
+    sources.push(source)?;
     Ok(())
 }
 
-/// The script with this path.
-fn read_script<H: Shelf>(alloc: Global, path: &Path, shelf: &mut H) -> Result<Script, Unread>
+/// The bytes of the script with this path.
+fn read_script<H: Shelf>(alloc: Global, path: &Path, shelf: &mut H) -> Result<Vec<u8>, Unread>
     ensures files { H.files shelf.new ≡ H.files shelf.old }
-    ensures told { IfSome (H.files shelf.old) (λ files. MatchResult result (IsFileAt files path.now) (Hinders files (H.failed shelf.new) path.now)) }
-    ensures path { IfOk result (λ script. script.path ≡ path.now) }
-    ensures short { IfOk result IsShortScript }
+    ensures told { IfSome (H.files shelf.old) (λ files. MatchResult result (λ source. bytes_at files path.now ≡ Some source.items) (Hinders files (H.failed shelf.new) path.now)) }
+    ensures short { IfOk result IsShortSource }
     ensures faults { H.faults shelf.old ≤ H.faults shelf.new }
     ensures cause { IfErr result (λ unread. IsFailed unread → Rose (H.faults shelf.old) (H.faults shelf.new)) }
 {
-    let named = path.clone()?;
     let source = match shelf.read(alloc, path, MAX_SOURCE) {
         Ok(source) => source,
-        Err(ShelfFault::Failed) => return Err(Unread::Failed(named)),
+        Err(ShelfFault::Failed) => return Err(Unread::Failed(path.clone()?)),
         Err(ShelfFault::NoMemory) => return Err(Unread::NoMemory),
     };
     if source.len() > MAX_SOURCE as usize {
-        return Err(Unread::LongFile(named));
+        return Err(Unread::LongFile(path.clone()?));
     }
-    Ok(Script {
-        path: named,
-        source,
-    })
+    Ok(source)
 }
 
-/// The answer for these scripts.
-fn judge(alloc: Global, scripts: &[Script]) -> Result<Answer, NoMemory>
-    requires few { length scripts.now ≤ 1024 }
-    requires short { All IsShortScript scripts.now }
-    ensures { IfOk result (Judges (script_paths scripts.now)) }
+/// The report on the scripts with these paths and bytes.
+fn judge(alloc: Global, paths: Vec<Path>, sources: &[Vec<u8>]) -> Result<Report, NoMemory>
+    requires few { length sources.now ≤ 1024 }
+    requires short { All IsShortSource sources.now }
+    requires count { length sources.now ≡ length paths.items }
+    ensures paths { IfOk result (λ report. report.paths ≡ paths.items) }
+    ensures finds { IfOk result (λ report. Finds (bytes_of sources.now) report.diags) }
 {
-    let faults = find_faults(alloc, scripts)?;
-    if faults.is_empty() {
-        return Ok(Answer::Clean);
-    }
-    Ok(Answer::Faulty(Seq::of(faults)))
+    let diags = find_faults(alloc, sources)?;
+    Ok(Report::new(paths, diags))
 }
 
 /// The first fault of each script that has one.
-fn find_faults(alloc: Global, scripts: &[Script]) -> Result<Vec<FileFault>, NoMemory>
-    requires few { length scripts.now ≤ 1024 }
-    requires short { All IsShortScript scripts.now }
-    ensures { IfOk result (λ faults. IsOneEach faults.items (script_paths scripts.now)) }
+fn find_faults(alloc: Global, sources: &[Vec<u8>]) -> Result<Vec<Diag>, NoMemory>
+    requires few { length sources.now ≤ 1024 }
+    requires short { All IsShortSource sources.now }
+    ensures finds { IfOk result (λ diags. Finds (bytes_of sources.now) diags.items) }
+    ensures files { IfOk result (λ diags. All (λ diag. diag.pos.file < length sources.now) diags.items) }
 {
-    let mut faults = Vec::new(alloc);
+    let mut diags = Vec::new(alloc);
     let mut file = 0;
-    for script in scripts {
-        find_fault(alloc, file, script, &mut faults)?;
+    for source in sources {
+        find_fault(alloc, file, source, &mut diags)?;
         file += 1;
     }
-    Ok(faults)
+    Ok(diags)
 }
 
 /// Adds the first fault of the script with this number, where it has one.
 fn find_fault(
     alloc: Global,
     file: u32,
-    script: &Script,
-    faults: &mut Vec<FileFault>,
+    source: &[u8],
+    diags: &mut Vec<Diag>,
 ) -> Result<(), NoMemory>
-    requires { IsShortScript script.now }
-    ensures { OnOk result ((paths : List (List ℕ)) → IsOneEach faults.old.items paths → IsOneEach faults.new.items (paths ++ (script.now.path ∷ []))) }
+    requires { length source.now ≤ 1_048_576 }
+    ensures finds { OnOk result ((sources : List (List ℕ)) → file ≡ length sources → Finds sources diags.old.items → Finds (sources ++ (source.now ∷ [])) diags.new.items) }
+    ensures files { OnOk result (All (λ diag. diag.pos.file < file) diags.old.items → All (λ diag. diag.pos.file < file + 1) diags.new.items) }
 {
-    let Some(diag) = first_fault(alloc, file, script.source.as_slice())? else {
-        return Ok(());
-    };
-    let path = script.path.clone()?;
-    faults.push(FileFault { path, diag })?;
+    if let Some(diag) = first_fault(alloc, file, source)? {
+        diags.push(diag)?;
+    }
     Ok(())
 }
 
 /// The first fault of the file with this number: a lexical one before one of syntax.
 fn first_fault(alloc: Global, file: u32, source: &[u8]) -> Result<Option<Diag>, NoMemory>
     requires { length source.now ≤ 1_048_576 }
+    ensures finds { IfOk result (FileFinds file source.now) }
+    ensures file { IfOk result (λ found. IfSome found (λ diag. diag.pos.file ≡ file)) }
 {
     match lex(alloc, file, source) {
         Ok(tokens) => syntax_fault(alloc, &tokens),
@@ -209,9 +204,10 @@ fn first_fault(alloc: Global, file: u32, source: &[u8]) -> Result<Option<Diag>, 
     }
 }
 
-/// The first place at which these tokens are no script.
+/// A place at which these tokens are no script.
 fn syntax_fault(alloc: Global, tokens: &[Token]) -> Result<Option<Diag>, NoMemory>
     requires { 0 < length tokens.now }
+    ensures { IfOk result (λ found. IfSome found (λ diag. (k : ℕ) × StandsAt tokens.now k diag.pos diag.rule)) }
 {
     match parse(alloc, tokens) {
         Ok(_) => Ok(None),

@@ -3,11 +3,15 @@
 
 mod answer;
 mod check;
+mod machine;
 mod print;
 mod project;
+mod report;
 mod run;
+mod severity;
 mod source;
 mod status;
+mod stream;
 #[cfg(test)]
 mod tests;
 mod top;

@@ -1,70 +1,126 @@
-//! Writes an answer to the sink.
-ghost use Rattle.std.specs.Prelude.{codes, decimal, ◌++◌, [], ◌∷◌};
+//! Does what was decided: writes it to the sink, or runs it.
+ghost use Rattle.std.specs.Prelude.{◌≡◌, ◌<◌, codes, decimal, ◌++◌, [], ◌∷◌, All, IfOk, length};
 ghost use Rattle.std.specs.List.{flat_map};
 ghost use Rattle.gd_outside.specs.Cause.{HasCause};
 ghost use Rattle.gd_outside.specs.declared.sink.SinkFault.TheVariants.{Failed};
 ghost use Rattle.gd_command.specs.Puts.{Puts};
-ghost use Rattle.gd_command.specs.Answer.{answer_text, printed_of};
-ghost use Rattle.gd_command.specs.Output.{fault_line};
+ghost use Rattle.gd_command.specs.Answer.{answer_status, answer_text};
+ghost use Rattle.gd_command.specs.Report.{diag_line, path_at, report_status, severity_of, severity_word};
 ghost use Rattle.gd_rules.specs.Rule.{rule_code, rule_text};
 
-use crate::answer::{Answer, FileFault};
-use gd_meaning::Statement;
-use gd_rules::{Diag, Rule};
+use crate::answer::Answer;
+use crate::severity::Severity;
+use crate::status::Status;
+use crate::stream::stream;
 use gd_outside::{Path, Sink, SinkFault};
+use gd_rules::{Diag, Rule};
 use itoa::Buffer;
+use std::alloc::Global;
 
 const USAGE: &[u8] =
     b"usage: gd check [--warn] [--marks] / run MAIN [--turns N] [--frees] / build MAIN / exec IMAGE [--turns N] [--frees] / sample N / migrate IMAGE / fmt FILE / refs FILE LINE COLUMN / rename FILE LINE COLUMN NAME / suite [--turns N]\n";
 
-/// Writes the text of an answer. After an `Err` a prefix of it is written.
-pub fn print<K: Sink>(answer: &Answer, out: &mut K) -> Result<(), SinkFault>
+/// Writes the text of an answer, or runs the script that it names, and answers how the call ended.
+///
+/// After an `Err` a prefix of the text is written.
+pub fn perform<K: Sink>(alloc: Global, answer: &Answer, out: &mut K) -> Result<Status, SinkFault>
     ensures puts { Puts (K.contents out.old) (answer_text answer.now) (K.contents out.new) result }
+    ensures status { IfOk result (λ status. status ≡ answer_status answer.now) }
     ensures cause { HasCause (K.faults out.old) (K.faults out.new) result Failed }
 {
     match answer {
-        Answer::Usage => put(USAGE, out),
-        Answer::ListFault => put(b"read fault: list\n", out),
-        Answer::ReadFault(path) => print_read_fault(path.bytes(), out),
-        Answer::NotBuilt => put(b"not built\n", out),
-        Answer::Ran(statements) => print_statements(statements.items(), out),
-        Answer::TooManyFiles => put(b"too large: files\n", out),
-        Answer::LongFile(path) => print_long_file(path.bytes(), out),
-        Answer::LongProject => put(b"too large: project\n", out),
-        Answer::Clean => Ok(()),
-        Answer::Faulty(faults) => print_faults(faults.items(), out),
+        Answer::Usage => say(USAGE, Status::Usage, out),
+        Answer::ListFault => say(b"read fault: list\n", Status::ReadFault, out),
+        Answer::ReadFault(path) => say_of(b"read fault: ", path.bytes(), Status::ReadFault, out),
+        Answer::NotBuilt => say(b"not built\n", Status::NotBuilt, out),
+        Answer::Runs(statements) => stream(alloc, statements.items(), out),
+        Answer::TooManyFiles => say(b"too large: files\n", Status::TooLarge, out),
+        Answer::LongFile(path) => say_of(b"too large: file ", path.bytes(), Status::TooLarge, out),
+        Answer::LongProject => say(b"too large: project\n", Status::TooLarge, out),
+        Answer::Checked(report) => print_report(report.paths(), report.diags(), out),
     }
 }
 
-/// Writes the lines of faults.
-fn print_faults<K: Sink>(faults: &[FileFault], out: &mut K) -> Result<(), SinkFault>
-    ensures puts { Puts (K.contents out.old) (flat_map fault_line faults.now) (K.contents out.new) result }
+/// Writes a text, and answers this status.
+fn say<K: Sink>(text: &[u8], status: Status, out: &mut K) -> Result<Status, SinkFault>
+    ensures puts { Puts (K.contents out.old) text.now (K.contents out.new) result }
+    ensures status { IfOk result (λ answered. answered ≡ status) }
     ensures cause { HasCause (K.faults out.old) (K.faults out.new) result Failed }
 {
-    for fault in faults {
-        print_fault(fault, out)?;
+    put(text, out)?;
+    Ok(status)
+}
+
+/// Writes a text and a path, which end the line, and answers this status.
+fn say_of<K: Sink>(
+    text: &[u8],
+    path: &[u8],
+    status: Status,
+    out: &mut K,
+) -> Result<Status, SinkFault>
+    ensures puts { Puts (K.contents out.old) (text.now ++ (path.now ++ (10 ∷ []))) (K.contents out.new) result }
+    ensures status { IfOk result (λ answered. answered ≡ status) }
+    ensures cause { HasCause (K.faults out.old) (K.faults out.new) result Failed }
+{
+    put(text, out)?;
+    print_line(path, out)?;
+    Ok(status)
+}
+
+/// Writes what a check found in the scripts with these paths, and answers the status that it gives.
+fn print_report<K: Sink>(paths: &[Path], diags: &[Diag], out: &mut K) -> Result<Status, SinkFault>
+    requires { All (λ diag. diag.pos.file < length paths.now) diags.now }
+    ensures puts { Puts (K.contents out.old) (flat_map (diag_line paths.now) diags.now) (K.contents out.new) result }
+    ensures status { IfOk result (λ status. status ≡ report_status diags.now) }
+    ensures cause { HasCause (K.faults out.old) (K.faults out.new) result Failed }
+{
+    print_diags(paths, diags, out)?;
+    Ok(status_of(diags))
+}
+
+/// The status of a check that found these.
+fn status_of(diags: &[Diag]) -> Status
+    ensures { result ≡ report_status diags.now }
+{
+    if diags.is_empty() {
+        Status::Done
+    } else {
+        Status::Faulty
+    }
+}
+
+/// Writes the lines of diagnostics in the scripts with these paths.
+fn print_diags<K: Sink>(paths: &[Path], diags: &[Diag], out: &mut K) -> Result<(), SinkFault>
+    requires { All (λ diag. diag.pos.file < length paths.now) diags.now }
+    ensures puts { Puts (K.contents out.old) (flat_map (diag_line paths.now) diags.now) (K.contents out.new) result }
+    ensures cause { HasCause (K.faults out.old) (K.faults out.new) result Failed }
+{
+    for diag in diags {
+        print_diag(paths, diag, out)?;
     }
     Ok(())
 }
 
-/// Writes the line of a fault.
-fn print_fault<K: Sink>(fault: &FileFault, out: &mut K) -> Result<(), SinkFault>
-    ensures puts { Puts (K.contents out.old) (fault_line fault.now) (K.contents out.new) result }
+/// Writes the line of a diagnostic.
+fn print_diag<K: Sink>(paths: &[Path], diag: &Diag, out: &mut K) -> Result<(), SinkFault>
+    requires { diag.now.pos.file < length paths.now }
+    ensures puts { Puts (K.contents out.old) (diag_line paths.now diag.now) (K.contents out.new) result }
     ensures cause { HasCause (K.faults out.old) (K.faults out.new) result Failed }
 {
-    let Diag { pos, rule } = fault.diag;
-    print_path(&fault.path, out)?;
+    let Diag { pos, rule } = *diag;
+    print_path(paths, pos.file, out)?;
     print_number(pos.line, out)?;
     print_number(pos.column, out)?;
     print_rule(rule, out)
 }
 
-/// Writes a path.
-fn print_path<K: Sink>(path: &Path, out: &mut K) -> Result<(), SinkFault>
-    ensures puts { Puts (K.contents out.old) path.now (K.contents out.new) result }
+/// Writes the path of the file with this number.
+fn print_path<K: Sink>(paths: &[Path], file: u32, out: &mut K) -> Result<(), SinkFault>
+    requires { file < length paths.now }
+    ensures puts { Puts (K.contents out.old) (path_at paths.now file) (K.contents out.new) result }
     ensures cause { HasCause (K.faults out.old) (K.faults out.new) result Failed }
 {
-    put(path.bytes(), out)
+    put(paths[file as usize].bytes(), out)
 }
 
 /// Writes a colon and a number.
@@ -87,17 +143,35 @@ fn print_decimal<K: Sink>(number: u32, out: &mut K) -> Result<(), SinkFault>
 
 /// Writes what stands in a line after the place.
 fn print_rule<K: Sink>(rule: Rule, out: &mut K) -> Result<(), SinkFault>
-    ensures puts { Puts (K.contents out.old) (codes ": error " ++ (rule_code rule ++ (codes ": " ++ (rule_text rule ++ (10 ∷ []))))) (K.contents out.new) result }
+    ensures puts { Puts (K.contents out.old) (codes ": " ++ (severity_word (severity_of rule) ++ (32 ∷ rule_code rule ++ (codes ": " ++ (rule_text rule ++ (10 ∷ [])))))) (K.contents out.new) result }
     ensures cause { HasCause (K.faults out.old) (K.faults out.new) result Failed }
 {
-    put(b": error ", out)?;
+    put(b": ", out)?;
+    print_severity(rule, out)?;
     print_code(rule, out)?;
     put(b": ", out)?;
     print_text(rule, out)
 }
 
-/// Writes the code of a rule.
+/// Writes the weight of a rule.
+fn print_severity<K: Sink>(rule: Rule, out: &mut K) -> Result<(), SinkFault>
+    ensures puts { Puts (K.contents out.old) (severity_word (severity_of rule)) (K.contents out.new) result }
+    ensures cause { HasCause (K.faults out.old) (K.faults out.new) result Failed }
+{
+    put(Severity::of(rule).word().as_bytes(), out)
+}
+
+/// Writes a blank and the code of a rule.
 fn print_code<K: Sink>(rule: Rule, out: &mut K) -> Result<(), SinkFault>
+    ensures puts { Puts (K.contents out.old) (32 ∷ rule_code rule) (K.contents out.new) result }
+    ensures cause { HasCause (K.faults out.old) (K.faults out.new) result Failed }
+{
+    put(b" ", out)?;
+    put_code(rule, out)
+}
+
+/// Writes the code of a rule.
+fn put_code<K: Sink>(rule: Rule, out: &mut K) -> Result<(), SinkFault>
     ensures puts { Puts (K.contents out.old) (rule_code rule) (K.contents out.new) result }
     ensures cause { HasCause (K.faults out.old) (K.faults out.new) result Failed }
 {
@@ -112,49 +186,6 @@ fn print_text<K: Sink>(rule: Rule, out: &mut K) -> Result<(), SinkFault>
     print_line(rule.text().as_bytes(), out)
 }
 
-/// Writes the line of a script that is too long.
-fn print_long_file<K: Sink>(path: &[u8], out: &mut K) -> Result<(), SinkFault>
-    ensures puts { Puts (K.contents out.old) (codes "too large: file " ++ (path.now ++ (10 ∷ []))) (K.contents out.new) result }
-    ensures cause { HasCause (K.faults out.old) (K.faults out.new) result Failed }
-{
-    put(b"too large: file ", out)?;
-    print_line(path, out)
-}
-
-/// Writes what statements print.
-fn print_statements<K: Sink>(statements: &[Statement], out: &mut K) -> Result<(), SinkFault>
-    ensures puts { Puts (K.contents out.old) (flat_map printed_of statements.now) (K.contents out.new) result }
-    ensures cause { HasCause (K.faults out.old) (K.faults out.new) result Failed }
-{
-    for statement in statements {
-        print_statement(statement, out)?;
-    }
-    Ok(())
-}
-
-/// Writes what a statement prints.
-fn print_statement<K: Sink>(statement: &Statement, out: &mut K) -> Result<(), SinkFault>
-    ensures puts { Puts (K.contents out.old) (printed_of statement.now) (K.contents out.new) result }
-    ensures cause { HasCause (K.faults out.old) (K.faults out.new) result Failed }
-{
-    match statement {
-        Statement::Pass => Ok(()),
-        Statement::Print(number) => {
-            let mut buffer = Buffer::new();
-            print_line(buffer.format(*number).as_bytes(), out)
-        }
-    }
-}
-
-/// Writes the line of a read that failed.
-fn print_read_fault<K: Sink>(path: &[u8], out: &mut K) -> Result<(), SinkFault>
-    ensures puts { Puts (K.contents out.old) (codes "read fault: " ++ (path.now ++ (10 ∷ []))) (K.contents out.new) result }
-    ensures cause { HasCause (K.faults out.old) (K.faults out.new) result Failed }
-{
-    put(b"read fault: ", out)?;
-    print_line(path, out)
-}
-
 /// Writes a piece.
 fn put<K: Sink>(piece: &[u8], out: &mut K) -> Result<(), SinkFault>
     ensures puts { Puts (K.contents out.old) piece.now (K.contents out.new) result }
@@ -167,7 +198,7 @@ fn put<K: Sink>(piece: &[u8], out: &mut K) -> Result<(), SinkFault>
 }
 
 /// Writes a line.
-fn print_line<K: Sink>(text: &[u8], out: &mut K) -> Result<(), SinkFault>
+pub fn print_line<K: Sink>(text: &[u8], out: &mut K) -> Result<(), SinkFault>
     ensures puts { Puts (K.contents out.old) (text.now ++ (10 ∷ [])) (K.contents out.new) result }
     ensures cause { HasCause (K.faults out.old) (K.faults out.new) result Failed }
 {

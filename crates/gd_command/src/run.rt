@@ -1,7 +1,8 @@
 //! `run MAIN`: reads the project and decides on its answer.
 ghost use Rattle.std.specs.Prelude.{◌≡◌, ◌≢◌, ◌≤◌, ◌↔◌, ◌∷◌, [], IsTrue, IfOk, IfSome};
 ghost use Rattle.gd_outside.specs.Cause.{Rose};
-ghost use Rattle.gd_command.specs.Output.{RunOutput};
+ghost use Rattle.gd_command.specs.Output.{RunOutput, scripts};
+ghost use Rattle.gd_command.specs.Call.{IsOnly};
 ghost use Rattle.gd_command.specs.Answer.{IsAnswer, IsFaultOf, RunsSource};
 ghost use Rattle.gd_command.specs.declared.answer.Answer.{Answer};
 ghost use Rattle.gd_command.specs.declared.answer.Answer.TheVariants.{Usage};
@@ -16,7 +17,7 @@ use std::alloc::Global;
 
 /// What `run` of the script with this path answers.
 pub fn run<H: Shelf>(alloc: Global, main: Path, shelf: &mut H) -> Result<Answer, NoMemory>
-    ensures told { IfSome (H.files shelf.old) (λ files. IfOk result (IsAnswer (RunOutput files main) files (H.failed shelf.new))) }
+    ensures told { IfSome (H.files shelf.old) (λ files. IfOk result (IsAnswer (RunOutput files main) (IsOnly (scripts files) main) files (H.failed shelf.new))) }
     ensures no_usage { IfOk result (λ answer. answer ≢ Usage) }
     ensures faults { H.faults shelf.old ≤ H.faults shelf.new }
     ensures cause { IfOk result (λ answer. IsFaultOf answer → Rose (H.faults shelf.old) (H.faults shelf.new)) }
@@ -53,7 +54,7 @@ fn run_source(alloc: Global, source: &[u8]) -> Result<Answer, NoMemory>
     ensures no_usage { IfOk result (λ answer. answer ≢ Usage) }
 {
     match read_source(alloc, source)? {
-        Some(statements) => Ok(Answer::Ran(Seq::of(statements))),
+        Some(statements) => Ok(Answer::Runs(Seq::of(statements))),
         None => Ok(Answer::NotBuilt),
     }
 }

@@ -121,10 +121,20 @@ fn calls_answer_as_their_words_mean(rt: HostRuntime) -> Result<(), Fail> {
         (
             Call {
                 words: "walk main.gd",
+                fails: &[1],
                 ..empty
             },
             Status::Usage,
             usage,
+        ),
+        (
+            Call {
+                words: "check",
+                room: 20,
+                ..script("print(1.5)")
+            },
+            Status::WriteFault,
+            "main.gd:1:7: error L",
         ),
         (empty, Status::NotBuilt, "not built\n"),
         (
@@ -216,6 +226,32 @@ fn check_finds_the_first_fault_of_a_script(rt: HostRuntime) -> Result<(), Fail> 
 }
 
 #[test]
+fn check_reports_each_script_by_its_path(rt: HostRuntime) -> Result<(), Fail> {
+    let alloc = rt.alloc();
+    let mut files = Vec::new(alloc);
+    for (path, text) in [
+        ("c.gd", "var x = 12ab\n"),
+        ("b.gd", "func f(:\n"),
+        ("a/d.gd", "func f(:\n\tpass\n\"\n"),
+        ("b.txt", "1.5"),
+        ("a.gd", "var x = 1\n"),
+    ] {
+        files.push((Path::new(alloc, path)?, text.as_bytes().to_vec(alloc)?))?;
+    }
+    let call = Call {
+        words: "check",
+        ..FORTY_TWO
+    };
+    let (ended, written) = answered(alloc, files, call)?;
+    assert_eq!(rt;
+        written.as_str(),
+        "a/d.gd:3:1: error L04: unterminated string\nb.gd:1:8: error S01: syntax\nc.gd:1:9: error L09: bad number\n"
+    );
+    assert!(rt; ended == Status::Faulty);
+    Ok(())
+}
+
+#[test]
 fn check_keeps_to_the_limits(rt: HostRuntime) -> Result<(), Fail> {
     for (count, bytes, fails, status, wanted) in [
         (0, 0, &[][..], Status::Done, ""),
@@ -227,6 +263,14 @@ fn check_keeps_to_the_limits(rt: HostRuntime) -> Result<(), Fail> {
             Status::TooLarge,
             "too large: file 0.gd\n",
         ),
+        (
+            2,
+            1_048_577,
+            &[3],
+            Status::TooLarge,
+            "too large: file 0.gd\n",
+        ),
+        (2, 1, &[3], Status::ReadFault, "read fault: 1.gd\n"),
         (1024, 1, &[], Status::Done, ""),
         (1025, 1, &[2], Status::TooLarge, "too large: files\n"),
         (4, 1_048_576, &[], Status::Done, ""),

@@ -3,14 +3,14 @@ ghost use Rattle.std.specs.Prelude.{◌≡◌, IfSome, IfOk, ◌≤◌};
 ghost use Rattle.gd_outside.specs.Cause.{Rose};
 ghost use Rattle.gd_command.specs.Words.{words_of};
 ghost use Rattle.gd_command.specs.Output.{Output, NoCommand};
-ghost use Rattle.gd_command.specs.Answer.{IsAnswer, IsFaultOf, answer_status};
-ghost use Rattle.gd_command.specs.Call.{Adds, Writes};
+ghost use Rattle.gd_command.specs.Answer.{IsAnswer, IsFaultOf};
+ghost use Rattle.gd_command.specs.Call.{Answers, IsUsageAnswer, WordsRead};
 ghost use Rattle.gd_command.specs.declared.answer.Answer.{Answer};
 ghost use Rattle.gd_command.specs.declared.answer.Answer.TheVariants.{Usage as UsageAnswer};
 
 use crate::answer::Answer;
 use crate::check::check;
-use crate::print::print;
+use crate::print::perform;
 use crate::run::run;
 use crate::status::Status;
 use crate::words::{Command, WordsFault, read_words};
@@ -24,20 +24,24 @@ use std::alloc::Global;
 /// shelf failed, and `WriteFault` where the sink did; `NoMemory` where no memory was left; `NotBuilt` where
 /// the project is one that cannot be run yet (docs/command-line.md).
 pub fn gd<H: Shelf, K: Sink>(alloc: Global, words: &[String], shelf: &mut H, out: &mut K) -> Status
-    // Over a shelf that tells its files, the text and the status are those that the words mean.
-    ensures output { IfSome (H.files shelf.old) (λ files. Adds (K.contents out.old) (K.contents out.new)
-        (Writes (words_of words.now) files (H.failed shelf.new) (Rose (H.faults shelf.old) (H.faults shelf.new)) result)) }
+    // Over a shelf that tells its files, the status and the text are those that the words mean, and the text is appended
+    // where the sink tells its bytes.
+    ensures output { IfSome (H.files shelf.old) (λ files. Answers (words_of words.now) files (H.failed shelf.new) (Rose (H.faults shelf.old) (H.faults shelf.new)) result
+        (K.contents out.old) (K.contents out.new)) }
+
+    // Usage is the answer exactly to words that are no form, whatever the shelf does.
+    ensures no_form { NoCommand (words_of words.now) → IsUsageAnswer result }
+    ensures usage { result ≡ Status.Usage → NoCommand (words_of words.now) }
 
     // Faults come from the outside alone.
-    ensures usage { result ≡ Status.Usage → NoCommand (words_of words.now) }
     ensures read_fault { result ≡ Status.ReadFault → Rose (H.faults shelf.old) (H.faults shelf.new) }
     ensures write_fault { result ≡ Status.WriteFault → Rose (K.faults out.old) (K.faults out.new) }
 {
     let Ok(answer) = decide(alloc, words, shelf) else {
         return Status::NoMemory;
     };
-    match print(&answer, out) {
-        Ok(()) => answer.status(),
+    match perform(alloc, &answer, out) {
+        Ok(status) => status,
         Err(SinkFault::Failed) => Status::WriteFault,
         Err(SinkFault::NoMemory) => Status::NoMemory,
     }
@@ -45,7 +49,8 @@ pub fn gd<H: Shelf, K: Sink>(alloc: Global, words: &[String], shelf: &mut H, out
 
 /// What the words are answered, before anything is written.
 fn decide<H: Shelf>(alloc: Global, words: &[String], shelf: &mut H) -> Result<Answer, NoMemory>
-    ensures told { IfSome (H.files shelf.old) (λ files. IfOk result (IsAnswer (Output (words_of words.now) files) files (H.failed shelf.new))) }
+    ensures told { IfSome (H.files shelf.old) (λ files. IfOk result (IsAnswer (Output (words_of words.now) files) (WordsRead (words_of words.now) files) files (H.failed shelf.new))) }
+    ensures no_form { NoCommand (words_of words.now) → IfOk result (λ answer. answer ≡ UsageAnswer) }
     ensures usage { IfOk result (λ answer. answer ≡ UsageAnswer → NoCommand (words_of words.now)) }
     ensures faults { H.faults shelf.old ≤ H.faults shelf.new }
     ensures cause { IfOk result (λ answer. IsFaultOf answer → Rose (H.faults shelf.old) (H.faults shelf.new)) }

@@ -1,7 +1,7 @@
 -- Bytes that a writer tells, as pieces reach it.
-use Rattle.std.proofs.Common.{◌+◌, ℕ, List, ◌++◌, take, drop, sym, ◌∙◌, ap, append_assoc, Option, Some, None}
+use Rattle.std.proofs.Common.{◌+◌, ℕ, List, ◌++◌, length, take, drop, sym, subst, ◌∙◌, ap, append_assoc, Option, Some, None, Result, Ok, Err, OnErr}
 use Rattle.std.specs.Io.KnownBytes.{Appends, Keeps}
-use Rattle.std.proofs.Math.Seq.{take-add}
+use Rattle.std.proofs.Math.Seq.{take-add, take-length}
 
 pub appends-keeps : (a b c : Option (List ℕ)) (xs : List ℕ) → Appends a b xs → Keeps b c → Appends a c xs
 appends-keeps None b c xs first then = tt
@@ -16,3 +16,9 @@ appends-more (Some held) None c bytes n k first then = absurd first
 appends-more (Some held) (Some more) None bytes n k first then = absurd then
 appends-more (Some held) (Some more) (Some rest) bytes n k first then =
     then ∙ ap (λ xs. xs ++ take k (drop n bytes)) first ∙ append_assoc held (take n bytes) (take k (drop n bytes)) ∙ ap (λ xs. held ++ xs) (sym (take-add n k bytes))
+
+-- a piece that was taken whole is a front of itself
+pub kept-whole : {T E : Type 0} (a b c : Option (List ℕ)) (piece : List ℕ) (r : Result T E) → Appends a b piece → Keeps b c → OnErr r ((k : ℕ) × Appends a c (take k piece))
+kept-whole a b c piece (Ok _) first then = tt
+kept-whole a b c piece (Err _) first then =
+    (length piece, subst (λ (xs : List ℕ). Appends a c xs) (sym (take-length piece)) (appends-keeps a b c piece first then))

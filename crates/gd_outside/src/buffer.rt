@@ -7,12 +7,17 @@ use std::marker::Model;
 // As many bytes are kept back, so that small pieces go out together.
 const SIZE: usize = 65_536;
 
+// As many line ends, so that a long run is seen to go on, and one that is stopped loses little.
+const LINES: usize = 32;
+
 /// Bytes that wait to be written, seen as the list of them.
 #[derive(Drop)]
 pub struct Buffer {
     bytes: Vec<u8>,
     // so many of the bytes, from the front on, wait no longer
     start: usize,
+    // so many line ends were added since no byte waited
+    lines: usize,
 }
 
 impl Model for Buffer {
@@ -36,6 +41,7 @@ impl Buffer {
         Buffer {
             bytes: Vec::new(alloc),
             start: 0,
+            lines: 0,
         }
     }
 
@@ -58,12 +64,19 @@ impl Buffer {
         count <= SIZE.saturating_sub(self.bytes.len())
     }
 
+    /// Whether as many line ends wait as are kept back.
+    pub fn has_many_lines(&self) -> bool {
+        self.lines >= LINES
+    }
+
     /// Adds a piece at the end.
     pub fn push(&mut self, piece: &[u8]) -> Result<(), AllocError>
         ensures ok { OnOk result (self.new ≡ self.old ++ piece.now) }
         ensures err { OnErr result (self.new ≡ self.old) }
     {
-        self.bytes.extend_from_slice(piece)
+        self.bytes.extend_from_slice(piece)?;
+        self.lines = self.lines.saturating_add(line_ends(piece));
+        Ok(())
     }
 
     /// Lets go of so many bytes, from the front on.
@@ -75,6 +88,12 @@ impl Buffer {
         if self.start == self.bytes.len() {
             self.bytes.clear();
             self.start = 0;
+            self.lines = 0;
         }
     }
+}
+
+// How many line ends stand in the piece.
+fn line_ends(piece: &[u8]) -> usize {
+    piece.iter().filter(|b| **b == b'\n').count()
 }

@@ -96,6 +96,20 @@ impl<W: Write> StdSink<W> {
         Ok(())
     }
 
+    // Keeps the piece back, and hands on all that waits where many lines do.
+    fn take_in(&mut self, piece: &[u8]) -> Result<(), SinkFault>
+        ensures whole { OnOk result (Appends (taken_bytes W.contents self.old) (taken_bytes W.contents self.new) piece.now) }
+        ensures part { OnErr result ((k : ℕ) × Appends (taken_bytes W.contents self.old) (taken_bytes W.contents self.new) (take k piece.now)) }
+        ensures cause { HasCause (sink_faults self.old) (sink_faults self.new) result Failed }
+        ensures failed { IsErrOf result Failed → has_failed self.new ≡ true }
+    {
+        self.keep(piece)?;
+        if self.buffer.has_many_lines() {
+            return self.flush();
+        }
+        Ok(())
+    }
+
     // Hands the piece to the writer.
     fn write_through(&mut self, piece: &[u8]) -> Result<(), SinkFault>
         requires { unwritten self.old ≡ [] }
@@ -133,11 +147,11 @@ impl<W: Write> Sink for StdSink<W> {
             return Err(self.fail());
         }
         if self.buffer.has_room(piece.len()) {
-            return self.keep(piece);
+            return self.take_in(piece);
         }
         self.write_out()?;
         if self.buffer.has_room(piece.len()) {
-            return self.keep(piece);
+            return self.take_in(piece);
         }
         self.write_through(piece)
     }

@@ -32,6 +32,32 @@ impl Write for Pipe {
 }
 
 #[test]
+fn a_sink_hands_on_lines_before_its_end(rt: HostRuntime) -> Result<(), Fail> {
+    let alloc = rt.alloc();
+    for (piece, count, handed_on) in [
+        ("line\n", 31, 0),
+        ("line\n", 32, 32 * 5),
+        ("line\n", 63, 32 * 5),
+        ("two\nlines\n", 16, 16 * 10),
+        ("no end", 10_922, 0),
+        ("no end", 10_923, 10_922 * 6),
+    ] {
+        let mut pipe = Pipe {
+            taken: Vec::new(alloc),
+            room: 200_000,
+            is_interrupted: false,
+        };
+        let mut sink = StdSink::new(alloc, &mut pipe);
+        for _ in 0..count {
+            sink.put(piece.as_bytes())?;
+        }
+        drop(sink);
+        assert_eq!(rt; pipe.taken.len(), handed_on, "of {count}");
+    }
+    Ok(())
+}
+
+#[test]
 fn a_sink_hands_on_each_byte_once(rt: HostRuntime) -> Result<(), Fail> {
     let alloc = rt.alloc();
     for (room, is_whole) in [(200_000, true), (100_007, false), (3, false)] {

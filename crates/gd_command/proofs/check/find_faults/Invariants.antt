@@ -1,10 +1,12 @@
-use Rattle.std.proofs.Common.{◌≡◌, take}
-use Rattle.gd_command.specs.Output.{IsOneEach}
-use Rattle.gd_command.specs.Check.{script_paths}
+use Rattle.std.proofs.Common.{◌≡◌, ◌<◌, All, take}
+use Rattle.gd_rules.specs.declared.diag.Diag.{Diag}
+use Rattle.gd_command.specs.Report.{Finds}
+use Rattle.gd_command.specs.Check.{bytes_of}
 use Rattle.gd_command.proofs.check.find_faults.Given as goal
 
-abbrev pub invariant-loop-script : goal.invariant-loop-script
-invariant-loop-script l = record {
-  counted : l.file ≡ l.script-index;
-  each : IsOneEach l.faults.items (script_paths (take l.script-index l.scripts));
+abbrev pub invariant-loop-source : goal.invariant-loop-source
+invariant-loop-source l = record {
+  counted : l.file ≡ l.source-index;
+  finds : Finds (bytes_of (take l.source-index l.sources)) l.diags.items;
+  files : All (λ (diag : Diag). diag.pos.file < l.source-index) l.diags.items;
 }

@@ -1,6 +1,15 @@
 use Rattle.std.proofs.Common.{arith, ap, length}
-use Rattle.gd_command.proofs.CheckLemmas.{whole_has_token}
+use Rattle.gd_command.proofs.CheckLemmas.{whole_has_token, lexical_of, parser_finds, parser_in}
 use Rattle.gd_command.proofs.check.first_fault.Goals as goal
 
 pub syntax_fault-requires : goal.syntax_fault-requires
 syntax_fault-requires c = let some = whole_has_token _ _ c.in-Ok.ensures.whole in omega (arith, ap length c.deref.ensures.value)
+
+pub returns-in-Ok-clause-finds : goal.returns-in-Ok-clause-finds
+returns-in-Ok-clause-finds c = parser_finds c.args.file c.args.source.now _ _ c.syntax_fault.result c.deref.ensures.value c.in-Ok.ensures.tokens c.syntax_fault.ensures
+
+pub returns-in-Ok-clause-file : goal.returns-in-Ok-clause-file
+returns-in-Ok-clause-file c = parser_in c.args.file _ _ c.syntax_fault.result c.deref.ensures.value c.in-Ok.ensures.whole c.syntax_fault.ensures
+
+pub returns-in-Err-Fault-clause-finds : goal.returns-in-Err-Fault-clause-finds
+returns-in-Err-Fault-clause-finds c = lexical_of c.args.file c.args.source.now _ _ _ _ _ c.in-Err-Fault.field-0-is c.in-Err-Fault.pos-is c.in-Err-Fault.rule-is c.in-Err-Fault.ensures.first

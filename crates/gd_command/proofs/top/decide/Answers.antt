@@ -11,3 +11,9 @@ returns-in-Check-clause-told g c = told-check (g.H.Shelf.files c.args.shelf.now)
 
 pub returns-in-Err-NoForm-clause-told : goal.returns-in-Err-NoForm-clause-told
 returns-in-Err-NoForm-clause-told g c = told-usage (g.H.Shelf.files c.args.shelf.now) (words_of c.args.words.now) (c.in-Err-NoForm.ensures.no_form (ap Err c.in-Err-NoForm.field-0-is))
+
+pub returns-in-Run-clause-no_form : goal.returns-in-Run-clause-no_form
+returns-in-Run-clause-no_form g c = λ none. absurd (none _ c.in-Ok.ensures.means)
+
+pub returns-in-Check-clause-no_form : goal.returns-in-Check-clause-no_form
+returns-in-Check-clause-no_form g c = λ none. absurd (none _ c.in-Ok.ensures.means)

@@ -1,5 +1,5 @@
 use Rattle.gd_command.proofs.PutsLemmas.{Puts-then, Puts-err, AppendsPrefix-then, AppendsPrefix-more}
-use Rattle.gd_command.proofs.print.print_fault.Goals as goal
+use Rattle.gd_command.proofs.print.print_diag.Goals as goal
 
 pub returns-in_err-print_path-clause-puts : goal.returns-in_err-print_path-clause-puts
 returns-in_err-print_path-clause-puts g c =
