@@ -1,0 +1,5 @@
+pub mod Counts
+pub mod Times
+pub mod Visits
+pub mod Walking
+pub mod Ways

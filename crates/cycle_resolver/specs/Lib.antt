@@ -1,0 +1,4 @@
+pub mod Needs
+pub mod Order
+pub mod Unfold
+pub mod Walk
