@@ -36,6 +36,6 @@ pub count-less : (p q : Item → Bool) (y : Item) (xs : List Item) → ((x : Ite
 count-less p q y [] h passed gone inside = let z : times y [] ≡ 0 = refl in absurd (omega arith)
 count-less p q y (x ∷ xs) h passed gone inside =
     elim (same_item-or-not y x) as (λ _. count_by q (x ∷ xs) < count_by p (x ∷ xs)) [
-      inl e ↦ omega (arith, count-cons p x xs, count-cons q x xs, same-weight (ap p (sym e) ∙ passed), same-weight (ap q (sym e) ∙ gone), count-le p q xs h)
+      | inl e ↦ omega (arith, count-cons p x xs, count-cons q x xs, same-weight (ap p (sym e) ∙ passed), same-weight (ap q (sym e) ∙ gone), count-le p q xs h)
       | inr other ↦ omega (arith, count-cons p x xs, count-cons q x xs, weight-le (q x) (p x) (h x), count-less p q y xs h passed gone (omega (arith, times-cons y x xs, same-weight other)))
     ]

@@ -1,4 +1,5 @@
 pub mod Counts
+pub mod Tables
 pub mod Times
 pub mod Visits
 pub mod Walking

@@ -16,9 +16,10 @@ item_from_parts a b e =
 
 pub same_item-decides : (a b : Item) → Decides (same_item a b) (a ≡ b)
 same_item-decides a b =
-    let parts = Decides-and _ _ (Decides-and _ _ (Decides-eqb a.member.class b.member.class) (Decides-eqb a.member.index b.member.index)) (Decides-eqb a.value b.value) in
-    (λ t. let p = parts.0 t in item_from_parts a b (p.0.0, p.0.1, p.1),
-    λ e. parts.1 ((ap (λ i. i.member.class) e, ap (λ i. i.member.index) e), ap (λ i. i.value) e))
+    let parts = Decides-and _ _ (Decides-and _ _ (Decides-eqb a.member.class b.member.class) (Decides-eqb a.member.index b.member.index)) (Decides-eqb a.value b.value) in (
+      λ t. let p = parts.0 t in item_from_parts a b (p.0.0, p.0.1, p.1),
+      λ e. parts.1 ((ap (λ i. i.member.class) e, ap (λ i. i.member.index) e), ap (λ i. i.value) e),
+    )
 
 pub same_item-refl : (a : Item) → same_item a a ≡ true
 same_item-refl a = (same_item-decides a a).1 refl
@@ -31,7 +32,7 @@ same_item-or-not a b =
 pub same_item-apart : (a b : Item) → same_item a b ≡ false → same_item b a ≡ false
 same_item-apart a b apart =
     elim (same_item-or-not b a) as (λ _. same_item b a ≡ false) [
-      inl e ↦ absurd (true≢false (sym ((same_item-decides a b).1 (sym e)) ∙ apart))
+      | inl e ↦ absurd (true≢false (sym ((same_item-decides a b).1 (sym e)) ∙ apart))
       | inr f ↦ f
     ]
 
@@ -62,7 +63,7 @@ pub found-times : (x : Item) (xs : List Item) → 1 ≤ times x xs → Contains 
 found-times x [] h = absurd (omega arith)
 found-times x (y ∷ ys) h =
     elim (same_item-or-not x y) as (λ _. Contains (y ∷ ys) x) [
-      inl e ↦ let P : Item → Type 0 = λ z. Contains (z ∷ ys) x in subst P e (Contains-append_left (x ∷ []) ys x (Contains-push [] x))
+      | inl e ↦ let P : Item → Type 0 = λ z. Contains (z ∷ ys) x in subst P e (Contains-append_left (x ∷ []) ys x (Contains-push [] x))
       | inr other ↦ Contains-append_right (y ∷ []) ys x (found-times x ys (omega (arith, times-cons x y ys, same-weight other)))
     ]
 

@@ -58,15 +58,15 @@ FollowNeeds-push needs xs y h last k d inside =
     let whole = length-append xs (y ∷ []) in
     let Q : List Item → Item → Type 0 = λ front item. All (Contains front) (needs item) in
     elim (cases_lt k (length xs)) as (λ _. Q (take k (xs ++ y ∷ [])) (slice_index_or (xs ++ y ∷ []) k d)) [
-      inl before ↦
-        let at : slice_index_or (xs ++ y ∷ []) k d ≡ slice_index_or xs k d = get_or-append xs (y ∷ []) d k before in
-        let front : take k (xs ++ y ∷ []) ≡ take k xs = take-append-le k xs (y ∷ []) (omega arith) in
-        rw (at, front) (h k d before)
+      | inl before ↦
+          let at : slice_index_or (xs ++ y ∷ []) k d ≡ slice_index_or xs k d = get_or-append xs (y ∷ []) d k before in
+          let front : take k (xs ++ y ∷ []) ≡ take k xs = take-append-le k xs (y ∷ []) (omega arith) in
+          rw (at, front) (h k d before)
       | inr past ↦
-        let here : k ≡ length xs = omega arith in
-        let at : slice_index_or (xs ++ y ∷ []) k d ≡ y = ap (λ n. slice_index_or (xs ++ y ∷ []) n d) here ∙ get_or-append_seam xs y [] d in
-        let front : take k (xs ++ y ∷ []) ≡ xs = ap (λ n. take n (xs ++ y ∷ [])) here ∙ take-append_seam xs (y ∷ []) in
-        rw (at, front) last
+          let here : k ≡ length xs = omega arith in
+          let at : slice_index_or (xs ++ y ∷ []) k d ≡ y = ap (λ n. slice_index_or (xs ++ y ∷ []) n d) here ∙ get_or-append_seam xs y [] d in
+          let front : take k (xs ++ y ∷ []) ≡ xs = ap (λ n. take n (xs ++ y ∷ [])) here ∙ take-append_seam xs (y ∷ []) in
+          rw (at, front) last
     ]
 
 -- an item that stands in none of the lists of settled items is open
@@ -91,12 +91,14 @@ top-open {items = items} {met = met} {sequence = sequence} {cyclic = cyclic} low
     let same = same-weight (same_item-refl top) in
     let P : Bool → Type 0 = λ b. met top ≡ b → (times top sequence ≡ 0) × (times top cyclic ≡ 0) × (met top ≡ true) in
     let alone = elim (met top) as P [
-      true ↦ λ e. let n = same-weight e in (omega arith, omega arith, e)
+      | true ↦ λ e. let n = same-weight e in (omega arith, omega arith, e)
       | false ↦ λ e. let n = same-weight e in absurd (omega arith)
     ] refl in
-    let in_items = w.among top alone.2 in
-    (still-open given w top in_items (λ h. let n = times-found top sequence h in let z = alone.0 in absurd (omega arith))
-      (λ h. let n = times-found top cyclic h in let z = alone.1 in absurd (omega arith)), in_items)
+    let in_items = w.among top alone.2 in (
+      still-open given w top in_items (λ h. let n = times-found top sequence h in let z = alone.0 in absurd (omega arith))
+          (λ h. let n = times-found top cyclic h in let z = alone.1 in absurd (omega arith)),
+      in_items,
+    )
 
 -- the item that was typed leads to no cycle
 types-kept : {needs : Item → List Item} {items : List Item} {begun now : Settled} {met met' : Item → Bool} {sequence cyclic : List Item} (lower : List Item) (top : Item)
@@ -107,9 +109,9 @@ types-kept {needs} {items} {begun} {now} {met} {met'} {sequence} {cyclic} lower 
     let in_items = (top-open lower top given w).1 in
     let needed = All-contains (λ item. All (Contains items) (needs item)) items top given.among in_items in
     let before : All (Contains sequence) (needs top) = λ k d inside.
-        let P : List Item → Type 0 = λ l. Contains l (slice_index_or (needs top) k d) in
-        let fresh = All-contains (IsOpen begun) items _ given.opened (needed k d inside) in
-        elim (Contains-append_cases begun.typed sequence _ (subst P w.typed (all k d inside))) as (λ _. Contains sequence (slice_index_or (needs top) k d)) [ inl a ↦ absurd (fresh.not_typed a) | inr b ↦ b ] in
+    let P : List Item → Type 0 = λ l. Contains l (slice_index_or (needs top) k d) in
+    let fresh = All-contains (IsOpen begun) items _ given.opened (needed k d inside) in
+    elim (Contains-append_cases begun.typed sequence _ (subst P w.typed (all k d inside))) as (λ _. Contains sequence (slice_index_or (needs top) k d)) [ inl a ↦ absurd (fresh.not_typed a) | inr b ↦ b ] in
     let none : All (λ item. ¬ LeadsToCycle needs item) (needs top) = λ k d inside. All-contains (λ item. ¬ LeadsToCycle needs item) sequence _ w.acyclic (before k d inside) in
     record {
       once = λ x. omega (arith, w.once x, times-push x lower top, times-push x sequence top, same-weight (same x));
@@ -141,17 +143,17 @@ gives_up-kept {needs} {items} {begun} {now} {met} {met'} {sequence} {cyclic} low
 entered-once : (next x : Item) (met : Item → Bool) (n : ℕ) → n ≡ cond (met x) 1 0 → met next ≡ false → n + cond (same_item x next) 1 0 ≡ cond (same_item next x || met x) 1 0
 entered-once next x met n whole unmet =
     elim (same_item-or-not x next) as (λ _. n + cond (same_item x next) 1 0 ≡ cond (same_item next x || met x) 1 0) [
-      inl e ↦
-        let none : met x ≡ false = ap met e ∙ unmet in
-        let zero : n ≡ 0 = whole ∙ same-weight none in
-        let one : cond {A = ℕ} (same_item x next) 1 0 ≡ 1 = same-weight ((same_item-decides x next).1 e) in
-        let now : cond {A = ℕ} (same_item next x || met x) 1 0 ≡ 1 = same-weight (ap (λ b. b || met x) ((same_item-decides next x).1 (sym e))) in
-        omega arith
+      | inl e ↦
+          let none : met x ≡ false = ap met e ∙ unmet in
+          let zero : n ≡ 0 = whole ∙ same-weight none in
+          let one : cond {A = ℕ} (same_item x next) 1 0 ≡ 1 = same-weight ((same_item-decides x next).1 e) in
+          let now : cond {A = ℕ} (same_item next x || met x) 1 0 ≡ 1 = same-weight (ap (λ b. b || met x) ((same_item-decides next x).1 (sym e))) in
+          omega arith
       | inr apart ↦
-        let zero : cond {A = ℕ} (same_item x next) 1 0 ≡ 0 = same-weight apart in
-        let other : same_item next x ≡ false = same_item-apart x next apart in
-        let now : cond {A = ℕ} (same_item next x || met x) 1 0 ≡ cond (met x) 1 0 = same-weight (ap (λ b. b || met x) other) in
-        omega arith
+          let zero : cond {A = ℕ} (same_item x next) 1 0 ≡ 0 = same-weight apart in
+          let other : same_item next x ≡ false = same_item-apart x next apart in
+          let now : cond {A = ℕ} (same_item next x || met x) 1 0 ≡ cond (met x) 1 0 = same-weight (ap (λ b. b || met x) other) in
+          omega arith
     ]
 
 -- an item enters the path behind those that lead to it
@@ -166,7 +168,7 @@ enters-kept {needs} {items} {begun} {now} {met} {met'} {sequence} {cyclic} path 
       let P : Bool → Type 0 = λ b. (b || met x) ≡ true → Contains items x in
       let either : (same_item next x || met x) ≡ true = sym (same x) ∙ h in
       elim (same_item-or-not next x) as (λ _. Contains items x) [
-        inl e ↦ subst (Contains items) e in_items
+        | inl e ↦ subst (Contains items) e in_items
         | inr other ↦ w.among x (ap (λ b. b || met x) (sym other) ∙ either)
       ];
   typed = w.typed;
@@ -187,9 +189,9 @@ closes-cycle {needs} {items} {begun} {now} {met} {sequence} {cyclic} lower top n
     let not_cyclic : times next cyclic ≡ 0 = not-found next cyclic (λ h. opened.not_given_up (subst P (sym w.given_up) (Contains-append_right begun.given_up cyclic next h))) in
     let on_path : Contains (lower ++ top ∷ []) next = found-times next (lower ++ top ∷ []) (omega (arith, w.once next, same-weight is_met)) in
     elim (Contains-push_cases lower top next on_path) as (λ _. NeedsItself needs top) [
-      inl below ↦
-        let Q : Item → Type 0 = λ a. Leads needs a top in
-        through top next top need (subst Q below.2 (leads-to-last (Leads needs) lower top w.leads below.0 next below.1))
+      | inl below ↦
+          let Q : Item → Type 0 = λ a. Leads needs a top in
+          through top next top need (subst Q below.2 (leads-to-last (Leads needs) lower top w.leads below.0 next below.1))
       | inr here ↦ directly top top (subst (Contains (needs top)) (sym here) need)
     ]
 
@@ -202,7 +204,7 @@ given-up-cycle {needs} {items} {begun} {now} {met} {sequence} {cyclic} lower top
     let fresh = All-contains (IsOpen begun) items next given.opened next_in in
     let P : List Item → Type 0 = λ l. Contains l next in
     elim (Contains-append_cases begun.given_up cyclic next (subst P w.given_up gone)) as (λ _. LeadsToCycle needs top) [
-      inl a ↦ absurd (fresh.not_given_up a)
+      | inl a ↦ absurd (fresh.not_given_up a)
       | inr b ↦ LeadsToCycle-need need (All-contains (LeadsToCycle needs) cyclic next w.to_cycle b)
     ]
 
@@ -310,10 +312,10 @@ ends {needs} {items} {begun} {now} {met} order given w all = record {
       let z : times x [] ≡ 0 = refl in
       let P : Bool → Type 0 = λ b. met x ≡ b → times x (order.sequence ++ order.cyclic) ≡ times x items in
       elim (met x) as P [
-        true ↦ λ e. let n = times-found x items (w.among x e) in let m = given.distinct x in omega (arith, w.once x, same-weight e)
+        | true ↦ λ e. let n = times-found x items (w.among x e) in let m = given.distinct x in omega (arith, w.once x, same-weight e)
         | false ↦ λ e.
-          let absent : times x items ≡ 0 = not-found x items (λ h. true≢false (sym (All-contains (λ item. met item ≡ true) items x all h) ∙ e)) in
-          omega (arith, w.once x, same-weight e)
+            let absent : times x items ≡ 0 = not-found x items (λ h. true≢false (sym (All-contains (λ item. met item ≡ true) items x all h) ∙ e)) in
+            omega (arith, w.once x, same-weight e)
       ] refl;
   follow = w.follow;
   cyclic = w.to_cycle;
@@ -340,7 +342,7 @@ pub starts-new : {needs needs' : Item → List Item} {items : List Item} {begun 
     → n < length items → slice_index_or items n d ≡ item → IsUnderWay needs needs' items begun now new (n + 1)
 starts-new {needs} {items = items} n d item old new h none unmet meets path sequence cyclic inside is =
     let ways : (k : ℕ) (d : Item) → k < length old.path.items → Leads needs (slice_index_or old.path.items k d) item =
-        λ k d below. let e = ap length none in absurd (omega arith) in
+    λ k d below. let e = ap length none in absurd (omega arith) in
     let met_now : has_met new item ≡ true = meets item ∙ ap (λ b. b || has_met old item) (same_item-refl item) in
     let at = subst (Contains items) is (Contains-get_or items n d inside) in
     record {
@@ -382,17 +384,19 @@ pub under-step : {needs needs' needs'' : Item → List Item} {items : List Item}
     → mid.sequence.items ≡ old.sequence.items → mid.cyclic.items ≡ old.cyclic.items → ((x : Item) → has_met mid x ≡ has_met old x)
     → needs'' ≡ needs' → Steps needs' top now after mid new
     → IsUnderWay needs needs'' items begun after new n
-      × (2 * unmet_count items new + length new.path.items < 2 * unmet_count items old + length old.path.items)
+    × (2 * unmet_count items new + length new.path.items < 2 * unmet_count items old + length old.path.items)
 under-step {needs} {needs'} {items = items} {now = now} {after = after} n old mid new top given h popped_is sequence cyclic same fixed step =
     let P : (Item → List Item) → Type 0 = λ f. Steps f top now after mid new in
     let s = subst P h.fixed step in
     let w = with-lists refl (sym popped_is) sequence cyclic (same-met same h.walks) in
-    let less = step-falls mid new top given w s in
-    (record {
-      fixed = fixed ∙ h.fixed;
-      walks = step-kept mid new top given w s;
-      met = All-weaker (λ x. has_met old x ≡ true) (λ x. has_met new x ≡ true) (λ x e. step-meets mid new top s x (same x ∙ e)) (take n items) h.met;
-    }, omega (arith, count-same (λ x. not (has_met old x)) (λ x. not (has_met mid x)) items (λ x. ap not (same x)), ap length popped_is))
+    let less = step-falls mid new top given w s in (
+      record {
+        fixed = fixed ∙ h.fixed;
+        walks = step-kept mid new top given w s;
+        met = All-weaker (λ x. has_met old x ≡ true) (λ x. has_met new x ≡ true) (λ x e. step-meets mid new top s x (same x ∙ e)) (take n items) h.met;
+      },
+      omega (arith, count-same (λ x. not (has_met old x)) (λ x. not (has_met mid x)) items (λ x. ap not (same x)), ap length popped_is),
+    )
 
 -- where all items were gone through, the order is found
 pub ends-at : {needs needs' : Item → List Item} {items : List Item} {begun now : Settled} {n : ℕ} (walk : Walk) (order : Order)

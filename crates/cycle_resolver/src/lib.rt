@@ -8,7 +8,7 @@ mod tests;
 mod unfold;
 mod walk;
 
-pub use gd_members::{Item, MemberId};
 pub use found::Order;
+pub use gd_members::{Item, MemberId};
 pub use resolve::order;
 pub use unfold::{Unfold, Visit};

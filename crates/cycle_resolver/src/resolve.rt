@@ -13,11 +13,7 @@ use std::alloc::Global;
 
 /// Settles distinct items, none of which is settled and which need none but one another. Each is visited at most twice
 /// for each time that it is met, without recursion. After `NoMemory` items may have been settled in `visitor`.
-pub fn order<U: Unfold>(
-    alloc: Global,
-    items: &[Item],
-    visitor: &mut U,
-) -> Result<Order, NoMemory>
+pub fn order<U: Unfold>(alloc: Global, items: &[Item], visitor: &mut U) -> Result<Order, NoMemory>
     requires distinct { AreDistinct items.now }
     requires open { All (IsOpen (U.settled visitor.old)) items.now }
     requires among { All (λ item. All (Contains items.now) (U.needs visitor.old item)) items.now }

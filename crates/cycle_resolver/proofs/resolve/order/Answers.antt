@@ -22,14 +22,14 @@ loop-top-init g c =
     let item : Item = slice_index_or c.args.items.now c.loop-item.item-index first in
     let P : Walk → Type 0 = λ v. IsUnderWay (g.U.Unfold.needs c.args.visitor.now) (g.U.Unfold.needs c.loop-item.visitor) c.args.items.now (g.U.Unfold.settled c.args.visitor.now) (g.U.Unfold.settled c.loop-item.visitor) v (c.loop-item.item-index + 1) in
     elim c.if-branch.branch [
-      then-branch+in_ok-push w ↦
-        let unmet = has-not _ _ c.in_ok-insert.ensures.added w.if-branch.true in
-        subst P (sym w.walk-is) (starts-new c.loop-item.item-index first item c.loop-item.walk _ c.loop-item.invariant.0 c.loop-item.invariant.1 unmet
+      | then-branch+in_ok-push w ↦
+          let unmet = has-not _ _ c.in_ok-insert.ensures.added w.if-branch.true in
+          subst P (sym w.walk-is) (starts-new c.loop-item.item-index first item c.loop-item.walk _ c.loop-item.invariant.0 c.loop-item.invariant.1 unmet
           (meets-by item c.loop-item.walk (record { met = c.insert.new.self; path = w.push.new.self; sequence = c.loop-item.walk.sequence; cyclic = c.loop-item.walk.cyclic }) (λ x. c.in_ok-insert.ensures.updates.0 x)) w.in_ok-push.ensures.items refl refl c.loop-item-test.true refl)
       | else-branch w ↦
-        let is_met = has-unless _ _ c.in_ok-insert.ensures.added w.if-branch.false in
-        let same = on_false _ w.if-branch.false c.in_ok-insert.ensures.unchanged in
-        subst P (sym w.walk-is) (starts-none c.loop-item.item-index first item c.loop-item.walk _ c.loop-item.invariant.0 is_met
+          let is_met = has-unless _ _ c.in_ok-insert.ensures.added w.if-branch.false in
+          let same = on_false _ w.if-branch.false c.in_ok-insert.ensures.unchanged in
+          subst P (sym w.walk-is) (starts-none c.loop-item.item-index first item c.loop-item.walk _ c.loop-item.invariant.0 is_met
           (λ x. ap (list_any (same_item x)) same) refl refl refl c.loop-item-test.true refl)
     ]
 
@@ -52,4 +52,4 @@ loop-item-preserved g c =
 pub returns-clause-order : goal.returns-clause-order
 returns-clause-order g c =
     ends-at c.loop-item.walk _ (record { distinct = c.requires.distinct; opened = c.requires.open; among = c.requires.among })
-      c.loop-item.invariant.0 c.loop-item.invariant.1 c.loop-item-test.false c.of.ensures c.of-2.ensures
+    c.loop-item.invariant.0 c.loop-item.invariant.1 c.loop-item-test.false c.of.ensures c.of-2.ensures
