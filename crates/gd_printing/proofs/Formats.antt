@@ -1,5 +1,5 @@
 -- What `%` gives with the arguments of a pattern, by the answer of the call that formats.
-use Rattle.std.proofs.Common.{◌≡◌, ℕ, ◌<◌, ◌≤◌, List, length, Option, None, Some, Result, Ok, Err, refl, ap, ◌∙◌}
+use Rattle.std.proofs.Common.{◌≡◌, ℕ, ◌<◌, ◌≤◌, List, length, Option, None, Some, Ok, Err, refl, ap, ◌∙◌}
 use Rattle.gd_model.specs.declared.fault.RunFault.TheVariants.{BadFormat, TooLong}
 use Rattle.gd_model.specs.Datum as d
 use Rattle.gd_text.specs.declared.formatting.Arg.{Arg}

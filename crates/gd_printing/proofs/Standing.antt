@@ -21,9 +21,9 @@ use Rattle.gd_answers.specs.declared.fresh.Fresh.{Fresh}
 use Rattle.gd_answers.specs.Answers.{Gives}
 use Rattle.value_semantics.specs.Answer.{in_form}
 use Rattle.value_semantics.specs.Formatting.{format_made, format_gives}
-use Rattle.value_semantics.specs.Made.{Made, value, text_made, limited}
+use Rattle.value_semantics.specs.Made.{Made, value, text_made}
 use Rattle.value_semantics.proofs.Made.{limited_past}
-use Rattle.gd_printing.specs.Arguments.{IsOverLong, IsOther, Stands, AllStand, unless_over}
+use Rattle.gd_printing.specs.Arguments.{Stands, AllStand, unless_over}
 
 or_moved : (a b c : Bool) → ((a || b) || c) ≡ (a || (b || c))
 or_moved true b c = refl
