@@ -233,8 +233,8 @@ module _ {T : Type 0} (handles : T → List Handle) where
       held_given_up (handles e.value) (without es (handle_of e)) hand (RisesFrom-filter (λ (x : Entry T). not (is_unheld_at (handle_of e) x)) 0 es rises)
       (held_without es (handle_of e) e hand rises found none held)
 
-  pub held_next : (class : T → Option ℕ) (old new : HeapView T) (serial : ℕ) (kind : Option ℕ) (hand : List Handle) → RisesFrom 0 (serials old.things) → TakesNext handles class old serial kind new → HeldBy handles old.things hand → HeldBy handles new.things hand
-  held_next class old new serial kind hand rises takes held =
+  pub held_next : (class : T → Option ℕ) (old new : HeapView T) (serial : ℕ) (kind : Option ℕ) (calls : ℕ) (hand : List Handle) → RisesFrom 0 (serials old.things) → TakesNext handles class old serial kind calls new → HeldBy handles old.things hand → HeldBy handles new.things hand
+  held_next class old new serial kind calls hand rises takes held =
       subst (λ (es : List (Entry T)). HeldBy handles es hand) (sym takes.things_are) (held_settled old.things takes.thing hand rises takes.found takes.unheld held)
 
   -- a caller whose handles are counted can settle

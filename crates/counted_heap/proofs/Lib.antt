@@ -3,7 +3,7 @@ pub mod GiveUp
 pub mod Holders
 pub mod Next
 pub mod Order
-pub mod Places
+pub mod Parts
 pub mod Split
 pub mod Taken
 pub mod Turn

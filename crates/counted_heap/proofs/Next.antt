@@ -1,5 +1,5 @@
 -- One step of settling, of its parts.
-use Rattle.std.proofs.Common.{◌≡◌, ℕ, List, ◌∷◌, Option, Some, sym, ap, ◌∙◌, subst}
+use Rattle.std.proofs.Common.{◌≡◌, ℕ, ◌+◌, length, List, ◌∷◌, Option, Some, sym, ap, ◌∙◌, subst}
 use Rattle.slot_arena.specs.declared.handle.Handle.{Handle}
 use Rattle.slot_arena.specs.Slots.{find_at, handle_of, without}
 use Rattle.gd_holding.specs.Holding.{IsCounted, CanGiveUp}
@@ -16,8 +16,8 @@ module _ {T : Type 0} where
       let left : out.things ≡ without old.things h = takes.things_are ∙ ap (λ l. without l h) things in
       subst (λ l. CanGiveUp l (handles value)) (sym left) (subst (λ (t : T). CanGiveUp (without old.things h) (handles t)) (sym takes.value_is) can)
 
-  pub takes_next : (handles : T → List Handle) (class : T → Option ℕ) (old begun out new : HeapView T) (h : Handle) (value : T) (kind : Option ℕ) → begun ≡ record { things = old.things; round = current_round old; made = old.made } → TakesOut begun h value out → new ≡ record { things = given_up out.things (handles value); round = out.round; made = out.made } → kind ≡ class value → TakesNext handles class old h.serial kind new
-  takes_next handles class old begun out new h value kind begins takes ends kind_is =
+  pub takes_next : (handles : T → List Handle) (class : T → Option ℕ) (old begun out new : HeapView T) (h : Handle) (value : T) (kind : Option ℕ) (calls : ℕ) → begun ≡ record { things = old.things; round = current_round old; made = old.made } → TakesOut begun h value out → new ≡ record { things = given_up out.things (handles value); round = out.round; made = out.made } → kind ≡ class value → calls ≡ 1 + length (handles value) → TakesNext handles class old h.serial kind calls new
+  takes_next handles class old begun out new h value kind calls begins takes ends kind_is calls_are =
       let things : begun.things ≡ old.things = ap (λ (v : HeapView T). v.things) begins in
       let found : find_at old.things h ≡ Some takes.thing = ap (λ l. find_at l h) (sym things) ∙ takes.found in
       let is : handle_of takes.thing ≡ h = found_is h old.things takes.thing found in
@@ -36,5 +36,6 @@ module _ {T : Type 0} where
             ∙ ap (λ l. given_up l (handles value)) (takes.things_are ∙ ap (λ l. without l h) things)
             ∙ ap (λ (x : Handle). given_up (without old.things x) (handles value)) (sym is)
             ∙ ap (λ (t : T). given_up (without old.things (handle_of takes.thing)) (handles t)) takes.value_is;
+        calls_are = calls_are ∙ ap (λ (t : T). 1 + length (handles t)) takes.value_is;
         made_stays = ap (λ (v : HeapView T). v.made) ends ∙ takes.made_stays ∙ ap (λ (v : HeapView T). v.made) begins;
       }

@@ -1,8 +1,10 @@
 -- How a heap keeps what waits to be taken out.
-use Rattle.std.specs.Prelude.{ℕ, ◌≡◌, ◌+◌, ◌<◌, ◌≤◌, ◌&&◌, Bool, nat_eq, List, [], ◌∷◌, map, reverse, count_by, length, Some, ◌^◌}
+use Rattle.std.specs.Prelude.{ℕ, ◌≡◌, ◌+◌, ◌<◌, ◌≤◌, ◌&&◌, ◌||◌, Bool, nat_eq, nat_le, if◌then◌else◌, Option, None, List, [], ◌∷◌, map, reverse, count_by, length, Some, ◌^◌}
 use Rattle.std.specs.List.Sorted.{IsNonDecreasingBy}
 use Rattle.slot_arena.specs.declared.handle.Handle.{Handle}
 use Rattle.slot_arena.specs.Slots.{Entry, is_unheld_at, find_at, without}
+use Rattle.gd_model.specs.declared.fault.RunFault.{RunFault}
+use Rattle.gd_model.specs.declared.fault.RunFault.TheVariants.{TooManyThings}
 use Rattle.gd_holding.specs.Rounds.{HeapView}
 
 -- two handles are one
@@ -30,6 +32,11 @@ module _ {T : Type 0} where
   -- nothing holds the thing
   abbrev pub has_none : Entry T → Bool
   has_none e = nat_eq e.count 0
+
+  -- the fault of a heap that is asked for one more thing: as many are alive, or were made, as ever may be
+  abbrev pub make_fault : HeapView T → Option RunFault
+  make_fault heap =
+      if nat_le 16777216 (length heap.things) || nat_le 9223372036854775807 heap.made then Some TooManyThings else None
 
   -- the rest of the running round stands in falling order; it and what waits for the next are the
   -- things that nothing holds; and each of the two lists has room for all things

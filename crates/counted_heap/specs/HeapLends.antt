@@ -1,6 +1,6 @@
 -- What a heap ends as, where a `&mut` to one of its things is returned.
 use Rattle.std.specs.Prelude.{Option}
-use Rattle.std.specs.Borrow.{LendsIf, Fml, RattleType, MutBor}
+use Rattle.std.specs.Borrow.{Lends, LendsIf, Fml, RattleType, MutBor}
 use Rattle.gd_holding.specs.declared.holds.Holds as holds
 use Rattle.slot_arena.specs.declared.slots.Slots as slots
 use Rattle.slot_arena.specs.declared.handle.Handle.{Handle}
@@ -13,3 +13,8 @@ module _ (T S : RattleType) (h_holds : holds.Ghosts T.Denot) (s_slots : slots.Gh
   abbrev pub lends_thing : Option (MutBor T.Denot) → Fml
   lends_thing r =
       LendsIf (the_row T S h_holds s_slots) T s r (λ value. record s.now { things = written_at s.now.things h value }) s.now
+
+  -- the same for a thing that is alive
+  abbrev pub lends_live : MutBor T.Denot → Fml
+  lends_live r =
+      Lends (the_row T S h_holds s_slots) T s r (λ value. record s.now { things = written_at s.now.things h value })

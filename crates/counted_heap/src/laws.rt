@@ -1,9 +1,9 @@
 //! Laws of counting: what a caller knows that counts each thing it holds.
-ghost use Rattle.std.specs.Prelude.{◌≡◌, [], ℕ, ◌+◌, ◌^◌, ◌<◌, List, length, sum_by, Contains};
+ghost use Rattle.std.specs.Prelude.{◌≡◌, [], ℕ, ◌+◌, ◌^◌, ◌<◌, List, length, sum_by, Contains, IsSome};
 ghost use Rattle.std.specs.List.Sorted.{IsPermutation};
 ghost use Rattle.std.specs.Option.{ForSome};
 ghost use Rattle.slot_arena.specs.declared.handle.Handle.{Handle};
-ghost use Rattle.slot_arena.specs.Slots.{Entry, count_at};
+ghost use Rattle.slot_arena.specs.Slots.{Entry, count_at, find_at};
 ghost use Rattle.gd_holding.specs.Rounds.{unheld};
 ghost use Rattle.gd_holding.specs.Holding.{AreCounted, IsCounted, IsHeld, filled, held_in, occurrences};
 
@@ -13,6 +13,18 @@ use gd_holding::Holds;
 pub fn in_hand<T: Holds>()
     ensures { (es : List (Entry T)) (hand : List Handle) (h : Handle)
         → AreCounted T.places es hand → Contains hand h → IsHeld es h }
+{}
+
+/// What the caller holds is alive.
+pub fn alive_in_hand<T: Holds>()
+    ensures { (es : List (Entry T)) (hand : List Handle) (h : Handle)
+        → AreCounted T.places es hand → Contains hand h → IsSome (find_at es h) }
+{}
+
+/// What a thing holds is alive.
+pub fn alive_in_thing<T: Holds>()
+    ensures { (es : List (Entry T)) (hand : List Handle) (e : Entry T) (h : Handle)
+        → AreCounted T.places es hand → Contains es e → Contains (filled (T.places e.value)) h → IsSome (find_at es h) }
 {}
 
 /// The heap may settle.

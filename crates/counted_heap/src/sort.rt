@@ -10,6 +10,8 @@ pub fn sort_falling(handles: &mut Vec<Handle>)
     ensures falling { IsNonDecreasingBy (λ h. h.serial) (reverse handles.new.items) }
     ensures capacity { vec_capacity handles.new ≡ vec_capacity handles.old }
 {
-    handles.sort_unstable_by_key(|h| h.serial);
-    handles.reverse();
+    if handles.len() > 1 {
+        handles.sort_unstable_by_key(|h| h.serial);
+        handles.reverse();
+    }
 }

@@ -4,7 +4,7 @@ ghost use Rattle.gd_holding.specs.Holding.{AreCounted, filled};
 ghost use Rattle.counted_heap.specs.Thing.{thing_places};
 
 use crate::{Heap, Thing};
-use gd_containers::{OrderedDict, ThingFault, TypedArray};
+use gd_containers::{OnHeap, OrderedDict, ThingFault, TypedArray};
 use gd_model::{Key, Ty, Value};
 use gd_syntax::Seq;
 use slot_arena::{Handle, SlabSlots, Slots, Steps};
@@ -62,7 +62,7 @@ fn dict_over(alloc: Global, h: Handle) -> Result<Thing, Fail>
 {
     let mut dict = OrderedDict::new(alloc, false);
     dict.set(Key::Object(h), Value::Nil)?;
-    Ok(Thing::Dict(dict))
+    Ok(Thing::Dict(OnHeap::new(alloc, dict)?))
 }
 
 /// Makes a thing, which takes what it holds over from the list, and puts its handle at the front.
@@ -116,6 +116,7 @@ fn perform<L: Ledger, R: Abort>(
             Ok(())
         }
         Act::Settle(expected) => {
+            assert_eq!(rt; heap.is_settled(), expected.is_none());
             assert_eq!(rt; heap.settle(steps), *expected);
             Ok(())
         }
@@ -205,11 +206,15 @@ fn write_and_keep<L: Ledger, R: Abort>(rt: &R, alloc: Global, blank: Blank) -> R
         Thing::Array(TypedArray::new(alloc, Ty::Variant, false)),
         steps,
     )?;
+    assert!(rt; matches!(heap.thing(h), Thing::Array(array) if array.size() == 0));
     heap.keep(&Value::Array(h), steps);
-    if let Some(Thing::Array(array)) = heap.write(h) {
+    if let Thing::Array(array) = heap.thing_mut(h) {
         array.push(Value::Int(7), true)?;
     }
-    assert!(rt; matches!(heap.read(h), Some(Thing::Array(array)) if array.size() == 1));
+    if let Some(Thing::Array(array)) = heap.write(h) {
+        array.push(Value::Int(8), true)?;
+    }
+    assert!(rt; matches!(heap.read(h), Some(Thing::Array(array)) if array.size() == 2));
     assert_eq!(rt; heap.entries(alloc)?.as_slice(), [h].as_slice());
     Ok(())
 }
@@ -217,4 +222,9 @@ fn write_and_keep<L: Ledger, R: Abort>(rt: &R, alloc: Global, blank: Blank) -> R
 #[test]
 fn a_thing_is_written(rt: HostRuntime) -> Result<(), Fail> {
     write_and_keep::<Brand, HostRuntime>(&rt, rt.alloc(), Blank::new(1))
+}
+
+#[test]
+fn a_thing_is_small(rt: HostRuntime) {
+    assert!(rt; size_of::<Thing>() <= 64);
 }

@@ -1,14 +1,18 @@
 //! Dictionaries, which keep their pairs in the order in which the keys came.
 ghost use Rattle.std.specs.Prelude.{◌≡◌, ◌+◌, ◌≤◌, ◌++◌, [], ◌∷◌, Some, None, true, length, slice_get, option_map, reverse, vec_len, vec_capacity, IfOk, OnOk, OnErr};
-ghost use Rattle.std.specs.Map.Iter.{deref_pair};
+ghost use Rattle.std.specs.Map.Iter.{ShowsInOrder, deref_pair};
 ghost use Rattle.std.specs.Option.{option_copied};
 ghost use Rattle.gd_model.specs.declared.ty.Ty.TheVariants.{Variant};
 ghost use Rattle.gd_model.specs.View.{value_at, pair_at, with_pair, without_key};
+ghost use Rattle.gd_model.specs.declared.key.Key.{Key as TheKey};
+ghost use Rattle.gd_model.specs.declared.value.Value.{Value as TheValue};
+ghost use Rattle.gd_containers.specs.Keys.{DistinctKeys};
 ghost use Rattle.indexmap.specs.IndexMap.{index_map_len};
 
 use crate::{MAX_ITEMS, ThingFault};
 use gd_model::{Key, RunFault, Ty, Value};
 use indexmap::IndexMap;
+use indexmap::map::Iter;
 use no_memory::NoMemory;
 use std::alloc::Global;
 use std::marker::Model;
@@ -112,6 +116,21 @@ impl OrderedDict {
         ensures { option_map deref_pair result ≡ slice_get self.now.pairs i }
     {
         self.map.get_index(i as usize)
+    }
+
+    /// The pairs in the order of their keys.
+    pub fn iter(&self) -> Iter<'_, Key, Value>
+        ensures rest { result ≡ self.now.pairs }
+        ensures runs { ShowsInOrder (deref_pair {K = TheKey} {X = TheValue}) }
+    {
+        self.map.iter()
+    }
+
+    /// A law: no two pairs have one key. It does nothing when it runs.
+    pub fn keys_differ(&self)
+        ensures { DistinctKeys self.now.pairs }
+    {
+        let _size = self.map.len();
     }
 
     /// Puts the value at the key in a dictionary of any keys and values, and gives the value that was there.

@@ -7,6 +7,7 @@ mod fault;
 mod found;
 mod key;
 mod look;
+mod on_heap;
 mod place;
 #[cfg(test)]
 mod tests;
@@ -17,4 +18,5 @@ pub use fault::{MAX_ITEMS, ThingFault};
 pub use found::{array_of, class_name_of, dict_of};
 pub use key::key_of;
 pub use look::Look;
+pub use on_heap::OnHeap;
 pub use place::{clamped_place, gap_place, item_place};

@@ -1,5 +1,5 @@
 -- The handles in values and keys.
-use Rattle.std.specs.Prelude.{Option, Some, None}
+use Rattle.std.specs.Prelude.{List, [], ◌∷◌, Option, Some, None}
 use Rattle.slot_arena.specs.declared.handle.Handle.{Handle}
 use Rattle.gd_model.specs.declared.value.Value as value
 use Rattle.gd_model.specs.declared.key.Key as key
@@ -16,7 +16,7 @@ value_handle (v.Object h) = Some h
 value_handle (v.Array h) = Some h
 value_handle (v.Dict h) = Some h
 value_handle (v.Callable _) = None
-value_handle (v.Signal _ _) = None
+value_handle (v.Signal _) = None
 
 -- the handle that a key holds
 abbrev pub key_handle : key.Key → Option Handle
@@ -25,3 +25,8 @@ key_handle (k.Bool _) = None
 key_handle (k.Int _) = None
 key_handle (k.Str _) = None
 key_handle (k.Object h) = Some h
+
+-- the places of pairs: for each its key and then its value
+abbrev pub pair_places : List (key.Key × value.Value) → List (Option Handle)
+pair_places [] = []
+pair_places (pair ∷ pairs) = key_handle pair.0 ∷ (value_handle pair.1 ∷ pair_places pairs)

@@ -1,5 +1,5 @@
 -- How unheld things are taken out, in rounds.
-use Rattle.std.specs.Prelude.{ℕ, ◌≡◌, ◌-◌, ◌==◌, List, [], ◌∷◌, Option, Some, map, filter, refl}
+use Rattle.std.specs.Prelude.{ℕ, ◌≡◌, ◌+◌, ◌-◌, ◌==◌, List, [], ◌∷◌, Option, Some, length, map, filter, refl}
 use Rattle.std.specs.Coded.{Coded, code_by, coded×, coded_ℕ, coded_list}
 use Rattle.slot_arena.specs.declared.handle.Handle.{Handle}
 use Rattle.slot_arena.specs.Slots.{Entry, entry_code, handle_of, find_at, with_count, without}
@@ -39,8 +39,8 @@ module _ {T : Type 0} where
   given_up es (h ∷ hs) = given_up (with_count (λ n. n - 1) es h) hs
 
   -- the heap takes out the first thing of the current round, which nothing holds, and gives up
-  -- what that thing holds
-  pub record TakesNext (handles : T → List Handle) (class : T → Option ℕ) (old : HeapView T) (serial : ℕ) (kind : Option ℕ) (new : HeapView T) : Type 0 where
+  -- what that thing holds, by a call on the slots for itself and one for each that it holds
+  pub record TakesNext (handles : T → List Handle) (class : T → Option ℕ) (old : HeapView T) (serial : ℕ) (kind : Option ℕ) (calls : ℕ) (new : HeapView T) : Type 0 where
     pub thing : Entry T
     pub found : find_at old.things (handle_of thing) ≡ Some thing
     pub unheld : thing.count ≡ 0
@@ -48,4 +48,5 @@ module _ {T : Type 0} where
     pub serial_is : serial ≡ thing.serial
     pub kind_is : kind ≡ class thing.value
     pub things_are : new.things ≡ given_up (without old.things (handle_of thing)) (handles thing.value)
+    pub calls_are : calls ≡ 1 + length (handles thing.value)
     pub made_stays : new.made ≡ old.made

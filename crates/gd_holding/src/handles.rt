@@ -16,7 +16,7 @@ pub fn handle_in(value: &Value) -> Option<Handle>
         | Value::Int(_)
         | Value::Str(_)
         | Value::Callable(_)
-        | Value::Signal(_, _) => None,
+        | Value::Signal(_) => None,
     }
 }
 

@@ -65,8 +65,8 @@ impl<T> SlabSlots<T> {
         }
     }
 
-    // The value of a thing that is alive.
-    fn value_mut(&mut self, h: Handle) -> &mut T
+    // The value of a thing that is alive, to write it.
+    fn lent(&mut self, h: Handle) -> &mut T
         requires { IsSome (find_at self.old.things h) }
         ensures* writes_back { sem 𝓛 (lends_value T.row self.entry h result) }
         ensures value { value_at self.old.things h ≡ Some result.now }
@@ -122,10 +122,18 @@ impl<T> Slots<T> for SlabSlots<T> {
 
     fn get_mut(&mut self, h: Handle) -> Option<&mut T> {
         if self.is_alive(h) {
-            Some(self.value_mut(h))
+            Some(self.lent(h))
         } else {
             None
         }
+    }
+
+    fn value(&self, h: Handle) -> &T {
+        &self.slots[h.index].value
+    }
+
+    fn value_mut(&mut self, h: Handle) -> &mut T {
+        self.lent(h)
     }
 
     fn count(&self, h: Handle) -> Option<u128> {

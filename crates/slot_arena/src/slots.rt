@@ -2,7 +2,7 @@
 ghost use Rattle.std.specs.Prelude.{◌≡◌, ℕ, ◌+◌, ◌-◌, ◌^◌, ◌<◌, ◌≤◌, List, [], ◌∷◌, ◌++◌, length, map, OnOk, OnErr, IfOk, Some, IsSome, option_copied};
 ghost use Rattle.std.specs.List.Sorted.{IsPermutation, IsNonDecreasingBy};
 ghost use Rattle.std.specs.Option.{ForSome, option_copied_mut};
-ghost use Rattle.std.specs.Borrow.{LendsIf, sem};
+ghost use Rattle.std.specs.Borrow.{Lends, LendsIf, sem};
 ghost use Rattle.slot_arena.specs.declared.handle.Handle.{Handle as TheHandle};
 ghost use Rattle.slot_arena.specs.Slots.{Entry, handle_of, find_at, value_at, count_at, unheld_at, with_count, written_at, without};
 
@@ -57,6 +57,17 @@ pub trait Slots<T> {
     fn get_mut(&mut self, h: Handle) -> Option<&mut T>
         ensures* writes_back { sem 𝓛 (LendsIf Self.row T.row self.entry result (with_value self.old h) self.old) }
         ensures value { option_copied_mut result ≡ value_at (things self.old) h };
+
+    /// The value of a thing that is alive.
+    fn value(&self, h: Handle) -> &T
+        requires { IsSome (find_at (things self.now) h) }
+        ensures { value_at (things self.now) h ≡ Some result.now };
+
+    /// The same value, to write it.
+    fn value_mut(&mut self, h: Handle) -> &mut T
+        requires { IsSome (find_at (things self.old) h) }
+        ensures* writes_back { sem 𝓛 (Lends Self.row T.row self.entry result (with_value self.old h)) }
+        ensures value { value_at (things self.old) h ≡ Some result.now };
 
     /// How many hold the thing that a handle names, if it is alive.
     fn count(&self, h: Handle) -> Option<u128>

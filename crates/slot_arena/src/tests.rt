@@ -52,6 +52,8 @@ fn write_and_keep<L: Ledger, R: Abort>(rt: &R, alloc: Global, blank: Blank) -> R
         *value = 'z';
     }
     assert_eq!(rt; slots.get(first).copied(), Some('z'));
+    *slots.value_mut(second) = 'y';
+    assert_eq!(rt; *slots.value(second), 'y');
     assert_eq!(rt; slots.count(second), Some(1));
     slots.keep(second, steps);
     assert_eq!(rt; slots.count(second), Some(2));

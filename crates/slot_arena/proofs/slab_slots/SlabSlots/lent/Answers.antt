@@ -1,7 +1,7 @@
 use Rattle.std.proofs.Common.{ap, ◌∙◌, refl, rules}
 use Rattle.slot_arena.proofs.Things.{slot_seen, serial_seen, find_seen, change_seen, same_arena, reads}
 use Rattle.slot_arena.proofs.Sound.{IsSound-write}
-use Rattle.slot_arena.proofs.slab_slots.SlabSlots.value_mut.Goals as goal
+use Rattle.slot_arena.proofs.slab_slots.SlabSlots.lent.Goals as goal
 
 pub index_mut-slot-requires : goal.index_mut-slot-requires
 index_mut-slot-requires g c =
