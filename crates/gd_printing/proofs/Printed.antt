@@ -2,141 +2,109 @@
 use Rattle.std.proofs.Common.{◌≡◌, ℕ, ◌+◌, ◌<◌, suc, List, [], ◌∷◌, ◌++◌, length, map, drop, get_or, slice_get, codes, Option, None, Some, Result, Ok, Err, refl, ap, sym, subst, ◌∙◌, add-one, append_assoc, append-nil, length-append, arith}
 use Rattle.std.proofs.Math.Seq.{drop-cons}
 use Rattle.std.proofs.lemmas.Option.{get_or_from_slice_get, slice_get_within}
-use Rattle.slot_arena.specs.declared.handle.Handle.{Handle}
-use Rattle.gd_model.specs.Store.{Thing}
-use Rattle.gd_model.specs.Thing.{ArrayThing, DictThing}
-use Rattle.gd_model.specs.declared.value.Key.{Key}
-use Rattle.gd_model.specs.declared.value.Value.{Value}
+use Rattle.gd_model.specs.Datum.{Datum}
+use Rattle.gd_model.specs.Store.{Store, Names, ArrayThing, DictThing}
 use Rattle.gd_model.specs.declared.fault.RunFault.TheVariants.{TooLong}
 use Rattle.gd_containers.specs.declared.fault.ThingFault.{ThingFault}
 use Rattle.gd_containers.specs.declared.fault.ThingFault.TheVariants.{Run, NoMemory}
-use Rattle.gd_ops.specs.Printed.{both, Puts, more_forms, all_forms, form_by, inside, array_form, plain_form, pair_form, pairs_form, dict_form}
+use Rattle.value_semantics.specs.Printed.{more_forms, all_forms, form_by, inside, array_form, pair_form, pairs_form, dict_form}
+use Rattle.gd_printing.specs.Puts.{Puts}
 
-ok_then : (s t : Option (List ℕ)) (old mid new : List ℕ) → both (Some old) s ≡ Some mid → both (Some mid) t ≡ Some new → both (Some old) (both s t) ≡ Some new
-ok_then None t old mid new e f = cc
-ok_then (Some s) None old mid new e f = cc
-ok_then (Some s) (Some t) old mid new e f = ap Some (sym (append_assoc old s t)) ∙ ap (λ m. both m (Some t)) e ∙ f
-
-long_then : (s t : Option (List ℕ)) (old mid new : List ℕ) → both (Some old) s ≡ Some mid → Puts t mid new (Err (Run TooLong)) → Puts (both s t) old new (Err (Run TooLong))
-long_then None t old mid new e f = tt
-long_then (Some s) None old mid new e f = tt
-long_then (Some s) (Some t) old mid new e f =
-    let same : old ++ s ≡ mid = cc in
-    let whole : old ++ (s ++ t) ≡ mid ++ t = sym (append_assoc old s t) ∙ ap (λ m. m ++ t) same in
-    let l : length (old ++ (s ++ t)) ≡ length (mid ++ t) = ap length whole in
-    omega arith
-
-long_stop : (s t : Option (List ℕ)) (old mid new : List ℕ) → Puts s old mid (Err (Run TooLong)) → Puts (both s t) old new (Err (Run TooLong))
-long_stop None t old mid new f = tt
-long_stop (Some s) None old mid new f = tt
-long_stop (Some s) (Some t) old mid new f =
-    let l : length (old ++ (s ++ t)) ≡ length (old ++ s) + length t = ap length (sym (append_assoc old s t)) ∙ length-append (old ++ s) t in
-    omega arith
+-- what putting the rest answers is the answer of the whole
+pub puts_moved : (rest whole out old new : List ℕ) (r : Result (Unit {0}) ThingFault) → out ++ rest ≡ old ++ whole → Puts rest out new r → Puts whole old new r
+puts_moved rest whole out old new (Ok u) e h = h ∙ e
+puts_moved rest whole out old new (Err NoMemory) e h = tt
+puts_moved rest whole out old new (Err (Run TooLong)) e h = subst (λ (t : List ℕ). 16777216 < length t) e h
+puts_moved rest whole out old new (Err (Run _)) e h = absurd h
 
 -- the one form went to the end, and then the other
-pub puts_then : (s t : Option (List ℕ)) (old mid new : List ℕ) (r : Result (Unit {0}) ThingFault) → Puts s old mid (Ok tt) → Puts t mid new r → Puts (both s t) old new r
-puts_then s t old mid new (Ok u) e f = ok_then s t old mid new e f
-puts_then s t old mid new (Err NoMemory) e f = tt
-puts_then s t old mid new (Err (Run TooLong)) e f = long_then s t old mid new e f
-puts_then s t old mid new (Err (Run _)) e f = absurd f
+pub puts_then : (s t old mid new : List ℕ) (r : Result (Unit {0}) ThingFault) → mid ≡ old ++ s → Puts t mid new r → Puts (s ++ t) old new r
+puts_then s t old mid new r e h = puts_moved t (s ++ t) mid old new r (ap (λ (m : List ℕ). m ++ t) e ∙ append_assoc old s t) h
 
 -- where the one did not, neither did both
-pub puts_stop : (s t : Option (List ℕ)) (old mid new : List ℕ) (f : ThingFault) → Puts s old mid (Err f) → Puts (both s t) old new (Err f)
+pub puts_stop : (s t old mid new : List ℕ) (f : ThingFault) → Puts s old mid (Err f) → Puts (s ++ t) old new (Err f)
 puts_stop s t old mid new NoMemory h = tt
-puts_stop s t old mid new (Run TooLong) h = long_stop s t old mid new h
+puts_stop s t old mid new (Run TooLong) h =
+    let l : length (old ++ (s ++ t)) ≡ length (old ++ s) + length t = ap length (sym (append_assoc old s t)) ∙ length-append (old ++ s) t in
+    omega arith
 puts_stop s t old mid new (Run _) h = absurd h
 
--- what is put behind the one is put behind both
-pub both_then : (s t : Option (List ℕ)) (old mid : List ℕ) → both (Some old) s ≡ Some mid → both (Some old) (both s t) ≡ both (Some mid) t
-both_then None t old mid e = cc
-both_then (Some s) None old mid e = refl
-both_then (Some s) (Some t) old mid e = ap Some (sym (append_assoc old s t)) ∙ ap (λ m. both m (Some t)) e
+-- the same form under another name
+pub puts_as : (s t old new : List ℕ) (r : Result (Unit {0}) ThingFault) → s ≡ t → Puts s old new r → Puts t old new r
+puts_as s t old new r e h = subst (λ (f : List ℕ). Puts f old new r) e h
 
-long_moved : (rest whole : Option (List ℕ)) (out old new : List ℕ) → both (Some out) rest ≡ both (Some old) whole → Puts rest out new (Err (Run TooLong)) → Puts whole old new (Err (Run TooLong))
-long_moved rest None out old new e h = tt
-long_moved None (Some w) out old new e h = cc
-long_moved (Some t) (Some w) out old new e h =
-    let same : out ++ t ≡ old ++ w = cc in
-    let l : length (out ++ t) ≡ length (old ++ w) = ap length same in
-    omega arith
+-- forms of the elements of a list, each by its image
+module _ {X Y : Type 0} (between : List ℕ) (image : X → Y) (form : Y → List ℕ) (xs : List X) where
+  -- the forms from place i on: that at i behind the text between them, and then the others
+  more_at : (i : ℕ) (x : X) → slice_get xs i ≡ Some x → more_forms between (map form (map image (drop i xs))) ≡ between ++ (form (image x) ++ more_forms between (map form (map image (drop (i + 1) xs))))
+  more_at i x e =
+      let within : i < length xs = slice_get_within xs i x e in
+      let at : get_or xs i x ≡ x = get_or_from_slice_get xs i x x e in
+      let here : more_forms between (map form (map image (drop i xs))) ≡ between ++ (form (image (get_or xs i x)) ++ more_forms between (map form (map image (drop (suc i) xs)))) = λ j. more_forms between (map form (map image (drop-cons xs i x within j))) in
+      here ∙ (λ j. between ++ (form (image (at j)) ++ more_forms between (map form (map image (drop (sym (add-one i) j) xs)))))
 
--- a fault while the rest is put is a fault of the whole
-pub puts_moved : (rest whole : Option (List ℕ)) (out old new : List ℕ) (f : ThingFault) → both (Some out) rest ≡ both (Some old) whole → Puts rest out new (Err f) → Puts whole old new (Err f)
-puts_moved rest whole out old new NoMemory e h = tt
-puts_moved rest whole out old new (Run TooLong) e h = long_moved rest whole out old new e h
-puts_moved rest whole out old new (Run _) e h = absurd h
+  -- one more form was put
+  pub more_next : (i : ℕ) (x : X) (out mid new : List ℕ) → slice_get xs i ≡ Some x → mid ≡ out ++ between → new ≡ mid ++ form (image x) → new ++ more_forms between (map form (map image (drop (i + 1) xs))) ≡ out ++ more_forms between (map form (map image (drop i xs)))
+  more_next i x out mid new e comma put =
+      let left = more_forms between (map form (map image (drop (i + 1) xs))) in
+      ap (λ (t : List ℕ). t ++ left) put ∙ append_assoc mid (form (image x)) left
+      ∙ ap (λ (t : List ℕ). t ++ (form (image x) ++ left)) comma ∙ append_assoc out between (form (image x) ++ left)
+      ∙ ap (λ (t : List ℕ). out ++ t) (sym (more_at i x e))
 
--- the forms from place i on: that at i behind the text between them, and then the others
-pub more_at : {X : Type 0} → (between : List ℕ) (form : X → Option (List ℕ)) (xs : List X) (i : ℕ) (x : X) → slice_get xs i ≡ Some x → more_forms between (map form (drop i xs)) ≡ both (Some between) (both (form x) (more_forms between (map form (drop (i + 1) xs))))
-more_at between form xs i x e =
-    let within : i < length xs = slice_get_within xs i x e in
-    let at : get_or xs i x ≡ x = get_or_from_slice_get xs i x x e in
-    let here : more_forms between (map form (drop i xs)) ≡ both (Some between) (both (form (get_or xs i x)) (more_forms between (map form (drop (suc i) xs)))) = λ j. more_forms between (map form (drop-cons xs i x within j)) in
-    here ∙ (λ j. both (Some between) (both (form (at j)) (more_forms between (map form (drop (sym (add-one i) j) xs)))))
+  -- the text between did not go to the end
+  pub more_no_comma : (i : ℕ) (x : X) (out new : List ℕ) (f : ThingFault) → slice_get xs i ≡ Some x → Puts between out new (Err f) → Puts (more_forms between (map form (map image (drop i xs)))) out new (Err f)
+  more_no_comma i x out new f e h =
+      puts_as _ _ out new (Err f) (sym (more_at i x e)) (puts_stop between (form (image x) ++ more_forms between (map form (map image (drop (i + 1) xs)))) out new new f h)
 
-pub more_next : {X : Type 0} → (between : List ℕ) (form : X → Option (List ℕ)) (xs : List X) (i : ℕ) (x : X) (out mid new : List ℕ) → slice_get xs i ≡ Some x → both (Some out) (Some between) ≡ Some mid → both (Some mid) (form x) ≡ Some new → both (Some new) (more_forms between (map form (drop (i + 1) xs))) ≡ both (Some out) (more_forms between (map form (drop i xs)))
-more_next between form xs i x out mid new e comma put =
-    sym (ap (λ m. both (Some out) m) (more_at between form xs i x e) ∙ both_then (Some between) (both (form x) (more_forms between (map form (drop (i + 1) xs)))) out mid comma ∙ both_then (form x) (more_forms between (map form (drop (i + 1) xs))) mid new put)
-
-pub more_no_comma : {X : Type 0} → (between : List ℕ) (form : X → Option (List ℕ)) (xs : List X) (i : ℕ) (x : X) (out new : List ℕ) (f : ThingFault) → slice_get xs i ≡ Some x → Puts (Some between) out new (Err f) → Puts (more_forms between (map form (drop i xs))) out new (Err f)
-more_no_comma between form xs i x out new f e h =
-    subst (λ (m : Option (List ℕ)). Puts m out new (Err f)) (sym (more_at between form xs i x e)) (puts_stop (Some between) (both (form x) (more_forms between (map form (drop (i + 1) xs)))) out new new f h)
-
-pub more_no_form : {X : Type 0} → (between : List ℕ) (form : X → Option (List ℕ)) (xs : List X) (i : ℕ) (x : X) (out mid new : List ℕ) (f : ThingFault) → slice_get xs i ≡ Some x → both (Some out) (Some between) ≡ Some mid → Puts (form x) mid new (Err f) → Puts (more_forms between (map form (drop i xs))) out new (Err f)
-more_no_form between form xs i x out mid new f e comma h =
-    let stop : Puts (both (form x) (more_forms between (map form (drop (i + 1) xs)))) mid new (Err f) = puts_stop (form x) (more_forms between (map form (drop (i + 1) xs))) mid new new f h in
-    subst (λ (m : Option (List ℕ)). Puts m out new (Err f)) (sym (more_at between form xs i x e)) (puts_then (Some between) (both (form x) (more_forms between (map form (drop (i + 1) xs)))) out mid new (Err f) comma stop)
+  -- the text between went to the end, but the form did not
+  pub more_no_form : (i : ℕ) (x : X) (out mid new : List ℕ) (f : ThingFault) → slice_get xs i ≡ Some x → mid ≡ out ++ between → Puts (form (image x)) mid new (Err f) → Puts (more_forms between (map form (map image (drop i xs)))) out new (Err f)
+  more_no_form i x out mid new f e comma h =
+      let left = more_forms between (map form (map image (drop (i + 1) xs))) in
+      puts_as _ _ out new (Err f) (sym (more_at i x e)) (puts_then between (form (image x) ++ left) out mid new (Err f) comma (puts_stop (form (image x)) left mid new new f h))
 
 -- all forms: the first, and then the others
-pub all_at : {X : Type 0} → (between : List ℕ) (form : X → Option (List ℕ)) (xs : List X) (x : X) → slice_get xs 0 ≡ Some x → all_forms between (map form xs) ≡ both (form x) (more_forms between (map form (drop 1 xs)))
-all_at between form [] x e = cc
-all_at between form (y ∷ ys) x e =
+pub all_at : {X Y : Type 0} → (between : List ℕ) (image : X → Y) (form : Y → List ℕ) (xs : List X) (x : X) → slice_get xs 0 ≡ Some x → all_forms between (map form (map image xs)) ≡ form (image x) ++ more_forms between (map form (map image (drop 1 xs)))
+all_at between image form [] x e = cc
+all_at between image form (y ∷ ys) x e =
     let same : y ≡ x = cc in
-    ap (λ z. both (form z) (more_forms between (map form ys))) same
+    ap (λ z. form (image z) ++ more_forms between (map form (map image ys))) same
 
-pub no_form_inside : (things : Handle → Option Thing) (names : ℕ → Option (List ℕ)) (room : ℕ) → room ≡ 0 → inside things names room ≡ None
-unfolding inside
-no_form_inside things names room e = ap (λ n. inside things names n) e
+pub all_none : {X Y : Type 0} → (between : List ℕ) (image : X → Y) (form : Y → List ℕ) (xs : List X) (old : List ℕ) → None ≡ slice_get xs 0 → old ≡ old ++ all_forms between (map form (map image xs))
+all_none between image form [] old e = sym (append-nil old)
+all_none between image form (x ∷ xs) old e = cc
 
-pub form_inside : (things : Handle → Option Thing) (names : ℕ → Option (List ℕ)) (room left : ℕ) → room ≡ left + 1 → inside things names room ≡ Some (form_by things names (inside things names left))
-unfolding inside
-form_inside things names room left e = ap (λ n. inside things names n) (e ∙ add-one left)
+module _ (store : Store) (names : Names) where
+  no_form_inside : (room : ℕ) → room ≡ 0 → inside store names room ≡ None
+  unfolding inside
+  no_form_inside room e = ap (λ n. inside store names n) e
 
--- an array that may be printed
-pub array_open : (things : Handle → Option Thing) (names : ℕ → Option (List ℕ)) (room left : ℕ) (a : ArrayThing) (items : List Value) (behind : Option ArrayThing) → room ≡ left + 1 → Some a ≡ behind → items ≡ a.items → both (Some (codes "[")) (both (all_forms (codes ", ") (map (form_by things names (inside things names left)) items)) (Some (codes "]"))) ≡ array_form (inside things names room) behind
-array_open things names room left a items behind e ea ei =
-    ap (λ xs. both (Some (codes "[")) (both (all_forms (codes ", ") (map (form_by things names (inside things names left)) xs)) (Some (codes "]")))) ei
-    ∙ (λ j. array_form (sym (form_inside things names room left e) j) (ea j))
+  form_inside : (room left : ℕ) → room ≡ left + 1 → inside store names room ≡ Some (form_by store names (inside store names left))
+  unfolding inside
+  form_inside room left e = ap (λ n. inside store names n) (e ∙ add-one left)
 
-pub array_too_deep : (things : Handle → Option Thing) (names : ℕ → Option (List ℕ)) (room : ℕ) (behind : Option ArrayThing) → room ≡ 0 → Some (codes "[...]") ≡ array_form (inside things names room) behind
-array_too_deep things names room behind e = ap (λ f. array_form f behind) (sym (no_form_inside things names room e))
+  -- an array that may be printed
+  pub array_open : (room left : ℕ) (a : ArrayThing) → room ≡ left + 1 → codes "[" ++ (all_forms (codes ", ") (map (form_by store names (inside store names left)) a.items) ++ codes "]") ≡ array_form (inside store names room) a
+  array_open room left a e = ap (λ f. array_form f a) (sym (form_inside room left e))
 
-pairs_open : (key_form form : Value → Option (List ℕ)) (ps : List (Key × Value)) → ¬ (length ps ≡ 0) → both (Some (codes "{ ")) (both (all_forms (codes ", ") (map (pair_form key_form form) ps)) (Some (codes " }"))) ≡ pairs_form key_form form ps
-pairs_open key_form form [] ne = absurd (ne refl)
-pairs_open key_form form (p ∷ ps) ne = refl
+  pub array_too_deep : (room : ℕ) (a : ArrayThing) → room ≡ 0 → codes "[...]" ≡ array_form (inside store names room) a
+  array_too_deep room a e = ap (λ f. array_form f a) (sym (no_form_inside room e))
 
-pairs_none : (key_form form : Value → Option (List ℕ)) (ps : List (Key × Value)) → length ps ≡ 0 → Some (codes "{  }") ≡ pairs_form key_form form ps
-pairs_none key_form form [] e = refl
-pairs_none key_form form (p ∷ ps) e = cc
+  pairs_open : (form : Datum → List ℕ) (ps : List (Datum × Datum)) → ¬ (length ps ≡ 0) → codes "{ " ++ (all_forms (codes ", ") (map (pair_form form) ps) ++ codes " }") ≡ pairs_form form ps
+  pairs_open form [] ne = absurd (ne refl)
+  pairs_open form (p ∷ ps) ne = refl
 
--- a dictionary that may be printed
-pub dict_open : (things : Handle → Option Thing) (names : ℕ → Option (List ℕ)) (room left : ℕ) (d : DictThing) (behind : Option DictThing) → room ≡ left + 1 → Some d ≡ behind → ¬ (length d.pairs ≡ 0) → both (Some (codes "{ ")) (both (all_forms (codes ", ") (map (pair_form (plain_form things names) (form_by things names (inside things names left))) d.pairs)) (Some (codes " }"))) ≡ dict_form (plain_form things names) (inside things names room) behind
-dict_open things names room left d behind e ed ne =
-    pairs_open (plain_form things names) (form_by things names (inside things names left)) d.pairs ne
-    ∙ (λ j. dict_form (plain_form things names) (sym (form_inside things names room left e) j) (ed j))
+  pairs_none : (form : Datum → List ℕ) (ps : List (Datum × Datum)) → length ps ≡ 0 → codes "{  }" ≡ pairs_form form ps
+  pairs_none form [] e = refl
+  pairs_none form (p ∷ ps) e = cc
 
-pub dict_empty : (things : Handle → Option Thing) (names : ℕ → Option (List ℕ)) (room left : ℕ) (d : DictThing) (behind : Option DictThing) → room ≡ left + 1 → Some d ≡ behind → length d.pairs ≡ 0 → Some (codes "{  }") ≡ dict_form (plain_form things names) (inside things names room) behind
-dict_empty things names room left d behind e ed none =
-    pairs_none (plain_form things names) (form_by things names (inside things names left)) d.pairs none
-    ∙ (λ j. dict_form (plain_form things names) (sym (form_inside things names room left e) j) (ed j))
+  -- a dictionary that may be printed
+  pub dict_open : (room left : ℕ) (d : DictThing) → room ≡ left + 1 → ¬ (length d.pairs ≡ 0) → codes "{ " ++ (all_forms (codes ", ") (map (pair_form (form_by store names (inside store names left))) d.pairs) ++ codes " }") ≡ dict_form (inside store names room) d
+  dict_open room left d e ne =
+      pairs_open (form_by store names (inside store names left)) d.pairs ne ∙ ap (λ f. dict_form f d) (sym (form_inside room left e))
 
-pub dict_too_deep : (things : Handle → Option Thing) (names : ℕ → Option (List ℕ)) (room : ℕ) (behind : Option DictThing) → room ≡ 0 → Some (codes "{...}") ≡ dict_form (plain_form things names) (inside things names room) behind
-dict_too_deep things names room behind e = ap (λ f. dict_form (plain_form things names) f behind) (sym (no_form_inside things names room e))
+  pub dict_empty : (room left : ℕ) (d : DictThing) → room ≡ left + 1 → length d.pairs ≡ 0 → codes "{  }" ≡ dict_form (inside store names room) d
+  dict_empty room left d e none =
+      pairs_none (form_by store names (inside store names left)) d.pairs none ∙ ap (λ f. dict_form f d) (sym (form_inside room left e))
 
-pub all_none : {X : Type 0} → (between : List ℕ) (form : X → Option (List ℕ)) (xs : List X) (old : List ℕ) → None ≡ slice_get xs 0 → both (Some old) (all_forms between (map form xs)) ≡ Some old
-all_none between form [] old e = ap Some (append-nil old)
-all_none between form (x ∷ xs) old e = cc
-
--- the same form under another name
-pub puts_as : (s t : Option (List ℕ)) (old new : List ℕ) (r : Result (Unit {0}) ThingFault) → s ≡ t → Puts s old new r → Puts t old new r
-puts_as s t old new r e h = subst (λ (f : Option (List ℕ)). Puts f old new r) e h
+  pub dict_too_deep : (room : ℕ) (d : DictThing) → room ≡ 0 → codes "{...}" ≡ dict_form (inside store names room) d
+  dict_too_deep room d e = ap (λ f. dict_form f d) (sym (no_form_inside room e))

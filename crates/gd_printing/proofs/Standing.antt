@@ -1,9 +1,10 @@
 -- Arguments that stand in for printed forms past the limit decide as those would: a pattern takes the ones where it
 -- takes the others, and the text is too long.
-use Rattle.std.proofs.Common.{◌≡◌, ℕ, suc, ◌-◌, ◌<◌, ◌≤◌, Bool, true, false, ◌||◌, ◌&&◌, ◌==◌, List, [], ◌∷◌, ◌++◌, length, Option, None, Some, Result, Ok, Err, refl, ap, sym, subst, ◌∙◌, if◌then◌else◌, replicate, length-append, arith}
+use Rattle.std.proofs.Common.{◌≡◌, ℕ, suc, ◌-◌, ◌<◌, ◌≤◌, Bool, true, false, ◌||◌, ◌&&◌, ◌==◌, nat_le, List, [], ◌∷◌, ◌++◌, length, Option, None, Some, option_and_then, Result, Ok, Err, refl, ap, sym, subst, ◌∙◌, if◌then◌else◌, replicate, length-append, arith}
 use Rattle.std.proofs.lemmas.Bool.{ne_eqb}
+use Rattle.gd_model.specs.declared.fault.RunFault.{RunFault}
 use Rattle.gd_model.specs.declared.fault.RunFault.TheVariants.{BadFormat, TooLong}
-use Rattle.gd_model.specs.declared.value.Value.TheVariants.{Str as StrValue}
+use Rattle.gd_model.specs.Datum as d
 use Rattle.gd_containers.specs.declared.fault.ThingFault.{ThingFault}
 use Rattle.gd_containers.specs.declared.fault.ThingFault.TheVariants.{Run, NoMemory}
 use Rattle.gd_text.specs.declared.formatting.Arg.{Arg}
@@ -13,52 +14,27 @@ use Rattle.gd_text.specs.declared.pattern.Letter.TheVariants.{Any, Character, De
 use Rattle.gd_text.specs.declared.pattern.Conversion.{Conversion}
 use Rattle.gd_text.specs.declared.pattern.Piece.{Piece}
 use Rattle.gd_text.specs.declared.pattern.Piece.TheVariants.{Plain, Shown}
-use Rattle.gd_text.specs.Format.{IsFormatted, takes, all_fit, text_of, shown}
-use Rattle.gd_ops.specs.declared.fresh.Fresh.{Fresh}
-use Rattle.gd_ops.specs.declared.fresh.Fresh.TheVariants.{Value as Made}
-use Rattle.gd_ops.specs.Formatted.{behind_it, all_there, FormatGives}
-use Rattle.gd_ops.specs.Arguments.{IsOverLong, IsOther, Stands, AllStand, limited}
+use Rattle.gd_text.specs.Format.{takes, all_fit, text_of, shown}
+use Rattle.gd_text.specs.Formatted.{pieces_of}
+use Rattle.gd_answers.specs.declared.fresh.Fresh.{Fresh}
+use Rattle.gd_answers.specs.Answers.{Gives}
+use Rattle.value_semantics.specs.Answer.{in_form}
+use Rattle.value_semantics.specs.Formatting.{format_made, format_gives}
+use Rattle.value_semantics.specs.Made.{Made, value, text_made, limited}
+use Rattle.value_semantics.proofs.Made.{limited_past}
+use Rattle.gd_printing.specs.Arguments.{IsOverLong, IsOther, Stands, AllStand, unless_over}
 
 or_moved : (a b c : Bool) → ((a || b) || c) ≡ (a || (b || c))
 or_moved true b c = refl
 or_moved false b c = refl
 
 -- one more at the end
-pub stand_more : (ws : List (Option Arg)) (args : List Arg) (over here : Bool) (w : Option Arg) (a : Arg) → AllStand ws args over → Stands w a here → AllStand (ws ++ w ∷ []) (args ++ a ∷ []) (over || here)
+pub stand_more : (ws : List Arg) (args : List Arg) (over here : Bool) (w : Arg) (a : Arg) → AllStand ws args over → Stands w a here → AllStand (ws ++ w ∷ []) (args ++ a ∷ []) (over || here)
 stand_more [] [] over false w a h s = (false, false, s, refl, ap (λ b. b || false) h)
 stand_more [] [] over true w a h s = (true, false, s, refl, ap (λ b. b || true) h)
 stand_more [] (x ∷ xs) over here w a h s = absurd h
 stand_more (v ∷ vs) [] over here w a h s = absurd h
 stand_more (v ∷ vs) (x ∷ xs) over here w a h s = (h.0, h.1 || here, h.2, stand_more vs xs h.1 here w a h.3 s, ap (λ b. b || here) h.4 ∙ or_moved h.0 h.1 here)
-
--- the argument at hand is that of the pattern, or stands in for one past the limit
-abbrev NearOne : Arg → Arg → Bool → Type 0
-NearOne x y false = x ≡ y
-NearOne x y true = IsOverLong x × IsOther y
-
-abbrev Near : List Arg → List Arg → Bool → Type 0
-Near [] [] over = over ≡ false
-Near (x ∷ xs) (y ∷ ys) over = (here : Bool) × (more : Bool) × NearOne x y here × Near xs ys more × (over ≡ (here || more))
-Near xs ys over = ⊥
-
-near_one : (w y : Arg) (here : Bool) → Stands (Some w) y here → NearOne w y here
-near_one w y false s = cc
-near_one w y true s = s
-
-near_more : (rest : Option (List Arg)) (w y : Arg) (args ys : List Arg) (over here more : Bool) → behind_it w rest ≡ Some args → NearOne w y here → ((xs : List Arg) → rest ≡ Some xs → Near xs ys more) → over ≡ (here || more) → Near args (y ∷ ys) over
-near_more None w y args ys over here more e one tail o = cc
-near_more (Some xs) w y args ys over here more e one tail o =
-    let same : w ∷ xs ≡ args = cc in
-    subst (λ (zs : List Arg). Near zs (y ∷ ys) over) same (here, more, one, tail xs refl, o)
-
-near : (ws : List (Option Arg)) (ys args : List Arg) (over : Bool) → AllStand ws ys over → all_there ws ≡ Some args → Near args ys over
-near [] [] args over h e =
-    let same : [] ≡ args = cc in
-    subst (λ (zs : List Arg). Near zs [] over) same h
-near [] (y ∷ ys) args over h e = absurd h
-near (w ∷ ws) [] args over h e = absurd h
-near (None ∷ ws) (y ∷ ys) args over h e = cc
-near (Some w ∷ ws) (y ∷ ys) args over h e = near_more (all_there ws) w y args ys over h.0 h.1 e (near_one w y h.0 h.2) (λ xs same. near ws ys xs h.1 h.3 same) h.4
 
 -- where none stands in, the arguments at hand are those of the pattern
 or_left : (a b : Bool) → false ≡ (a || b) → a ≡ false
@@ -69,17 +45,17 @@ or_right : (a b : Bool) → false ≡ (a || b) → b ≡ false
 or_right true b e = cc
 or_right false b e = sym e
 
-none_over : (ws : List (Option Arg)) (ys : List Arg) → AllStand ws ys false → all_there ws ≡ Some ys
+none_over : (ws ys : List Arg) → AllStand ws ys false → ws ≡ ys
 none_over [] [] h = refl
 none_over [] (y ∷ ys) h = absurd h
 none_over (w ∷ ws) [] h = absurd h
 none_over (w ∷ ws) (y ∷ ys) h =
-    let here : w ≡ Some y = subst (λ b. Stands w y b) (or_left h.0 h.1 h.4) h.2 in
-    let tail : all_there ws ≡ Some ys = none_over ws ys (subst (λ b. AllStand ws ys b) (or_right h.0 h.1 h.4) h.3) in
-    ap (λ v. all_there (v ∷ ws)) here ∙ ap (λ rest. behind_it y rest) tail
+    let here : w ≡ y = subst (λ b. Stands w y b) (or_left h.0 h.1 h.4) h.2 in
+    let tail : ws ≡ ys = none_over ws ys (subst (λ b. AllStand ws ys b) (or_right h.0 h.1 h.4) h.3) in
+    λ j. here j ∷ tail j
 
 -- both fit the same pieces
-takes_same : (letter : Letter) (x y : Arg) (here : Bool) → NearOne x y here → takes letter x ≡ takes letter y
+takes_same : (letter : Letter) (x y : Arg) (here : Bool) → Stands x y here → takes letter x ≡ takes letter y
 takes_same letter x y false s = ap (λ z. takes letter z) s
 takes_same Any (Other t) (Other u) true s = refl
 takes_same Character (Other t) (Other u) true s = refl
@@ -92,13 +68,13 @@ takes_same letter (Str t) y true s = absurd s.0
 takes_same letter x (Num n) true s = absurd s.1
 takes_same letter x (Str u) true s = absurd s.1
 
-same_length : (xs ys : List Arg) (over : Bool) → Near xs ys over → length xs ≡ length ys
+same_length : (xs ys : List Arg) (over : Bool) → AllStand xs ys over → length xs ≡ length ys
 same_length [] [] over h = refl
 same_length [] (y ∷ ys) over h = absurd h
 same_length (x ∷ xs) [] over h = absurd h
 same_length (x ∷ xs) (y ∷ ys) over h = ap suc (same_length xs ys h.1 h.3)
 
-fit_same : (ps : List Piece) (xs ys : List Arg) (over : Bool) → Near xs ys over → all_fit ps xs ≡ all_fit ps ys
+fit_same : (ps : List Piece) (xs ys : List Arg) (over : Bool) → AllStand xs ys over → all_fit ps xs ≡ all_fit ps ys
 fit_same [] xs ys over h = ap (λ n. n == 0) (same_length xs ys over h)
 fit_same (Plain c ∷ ps) xs ys over h = fit_same ps xs ys over h
 fit_same (Shown c ∷ ps) [] [] over h = refl
@@ -112,7 +88,7 @@ filled_by : (left : Bool) (blanks t : List ℕ) → length t ≤ length (if left
 filled_by true blanks t = omega (arith, length-append t blanks)
 filled_by false blanks t = omega (arith, length-append blanks t)
 
-shown_long : (c : Conversion) (x y : Arg) → NearOne x y true → 16777216 < length (shown c x)
+shown_long : (c : Conversion) (x y : Arg) → Stands x y true → 16777216 < length (shown c x)
 shown_long c (Num n) y s = absurd s.0
 shown_long c (Str t) y s = absurd s.0
 shown_long c (Other t) y s =
@@ -133,7 +109,7 @@ and_right : (a b : Bool) → (a && b) ≡ true → b ≡ true
 and_right true b h = h
 and_right false b h = cc
 
-no_pieces : (xs ys : List Arg) (over : Bool) → Near xs ys over → over ≡ true → (length xs == 0) ≡ true → ⊥
+no_pieces : (xs ys : List Arg) (over : Bool) → AllStand xs ys over → over ≡ true → (length xs == 0) ≡ true → ⊥
 no_pieces [] [] over h o e = cc
 no_pieces [] (y ∷ ys) over h o e = absurd h
 no_pieces (x ∷ xs) ys over h o e =
@@ -141,7 +117,7 @@ no_pieces (x ∷ xs) ys over h o e =
     cc
 
 -- a text with an argument past the limit is past the limit
-long_text : (ps : List Piece) (xs ys : List Arg) (over : Bool) → Near xs ys over → over ≡ true → all_fit ps xs ≡ true → 16777216 < length (text_of ps xs)
+long_text : (ps : List Piece) (xs ys : List Arg) (over : Bool) → AllStand xs ys over → over ≡ true → all_fit ps xs ≡ true → 16777216 < length (text_of ps xs)
 long_text [] xs ys over h o fit = absurd (no_pieces xs ys over h o fit)
 long_text (Plain c ∷ ps) xs ys over h o fit =
     let rest : 16777216 < length (text_of ps xs) = long_text ps xs ys over h o fit in
@@ -151,33 +127,40 @@ long_text (Shown c ∷ ps) (x ∷ xs) [] over h o fit = absurd h
 long_text (Shown c ∷ ps) (x ∷ xs) (y ∷ ys) over h o fit =
     let fit_rest : all_fit ps xs ≡ true = and_right (takes c.letter x) (all_fit ps xs) fit in
     long_parts (shown c x) (text_of ps xs) h.0 h.1 (sym h.4 ∙ o)
-    (λ e. shown_long c x y (subst (λ b. NearOne x y b) e h.2))
+    (λ e. shown_long c x y (subst (λ b. Stands x y b) e h.2))
     (λ e. long_text ps xs ys h.1 h.3 e fit_rest)
 
+-- a refusal stays one
+refused_over : (f : RunFault) (r : Result Fresh ThingFault) → Gives (Err f) r → Gives (Err f) (unless_over true r)
+refused_over f (Ok x) g = cc
+refused_over f (Err (Run h)) g = g
+refused_over f (Err NoMemory) g = tt
+
+too_long : (t : List ℕ) → 16777216 < length t → text_made t ≡ Err TooLong
+too_long t h = ap (in_form (λ s. value (d.text s))) (limited_past t h)
+
+only_too_long : (b : Bool) (u : List ℕ) (f : RunFault) → in_form (λ s. value (d.text s)) (if b then Ok u else Err TooLong) ≡ Err f → ◌≡◌ {A = Result Made RunFault} (Err TooLong) (Err f)
+only_too_long true u f e = cc
+only_too_long false u f e = e
+
+-- of a text past the limit, whatever the one at hand is
+text_over : (t u : List ℕ) (r : Result Fresh ThingFault) → 16777216 < length t → Gives (text_made u) r → Gives (text_made t) (unless_over true r)
+text_over t u (Ok x) long g = too_long t long
+text_over t u (Err (Run f)) long g = too_long t long ∙ only_too_long (nat_le (length u) 16777216) u f g
+text_over t u (Err NoMemory) long g = tt
+
+fit_over : (fits : Bool) (t u : List ℕ) (r : Result Fresh ThingFault) → (fits ≡ true → 16777216 < length t) → Gives (format_made (if fits then Some u else None)) r → Gives (format_made (if fits then Some t else None)) (unless_over true r)
+fit_over true t u r long g = text_over t u r (long refl) g
+fit_over false t u r long g = refused_over BadFormat r g
+
+pieces_over : (o : Option (List Piece)) (ws ys : List Arg) (r : Result Fresh ThingFault) → AllStand ws ys true → Gives (format_made (option_and_then (λ ps. if all_fit ps ys then Some (text_of ps ys) else None) o)) r → Gives (format_made (option_and_then (λ ps. if all_fit ps ws then Some (text_of ps ws) else None) o)) (unless_over true r)
+pieces_over None ws ys r h g = refused_over BadFormat r g
+pieces_over (Some ps) ws ys r h g =
+    let same : all_fit ps ws ≡ all_fit ps ys = fit_same ps ws ys true h in
+    subst (λ b. Gives (format_made (if b then Some (text_of ps ws) else None)) (unless_over true r)) (sym same)
+    (fit_over (all_fit ps ys) (text_of ps ws) (text_of ps ys) r (λ e. long_text ps ws ys true h refl (same ∙ e)) g)
+
 -- what the pattern gives with the arguments that it is to have, by those at hand
-no_text : (pattern : List ℕ) (xs ys : List Arg) (over : Bool) → Near xs ys over → ((t : List ℕ) → IsFormatted pattern ys t → ⊥) → (t : List ℕ) → IsFormatted pattern xs t → ⊥
-no_text pattern xs ys over h none t f =
-    none (text_of f.pieces ys) (record { pieces = f.pieces; are_pieces = f.are_pieces; fit = sym (fit_same f.pieces xs ys over h) ∙ f.fit; text = refl })
-
-long_one : (pattern : List ℕ) (xs ys : List Arg) (t : List ℕ) → Near xs ys true → IsFormatted pattern ys t → (u : List ℕ) × IsFormatted pattern xs u × (16777216 < length u)
-long_one pattern xs ys t h f =
-    let fit : all_fit f.pieces xs ≡ true = fit_same f.pieces xs ys true h ∙ f.fit in
-    (text_of f.pieces xs, record { pieces = f.pieces; are_pieces = f.are_pieces; fit = fit; text = refl }, long_text f.pieces xs ys true h refl fit)
-
-limited_gives : (pattern : List ℕ) (want : Option (List Arg)) (ys : List Arg) (r : Result Fresh ThingFault) → ((xs : List Arg) → want ≡ Some xs → Near xs ys true) → FormatGives pattern (Some ys) r → FormatGives pattern want (limited true r)
-limited_gives pattern None ys (Ok (Made (StrValue t))) h g = tt
-limited_gives pattern (Some xs) ys (Ok (Made (StrValue t))) h g =
-    let same : ys ≡ g.0 = cc in
-    long_one pattern xs ys t (h xs refl) (subst (λ (zs : List Arg). IsFormatted pattern zs t) (sym same) g.2)
-limited_gives pattern want ys (Ok (Made _)) h g = absurd g
-limited_gives pattern want ys (Ok _) h g = absurd g
-limited_gives pattern None ys (Err (Run TooLong)) h g = tt
-limited_gives pattern (Some xs) ys (Err (Run TooLong)) h g = long_one pattern xs ys g.0 (h xs refl) g.1
-limited_gives pattern None ys (Err (Run BadFormat)) h g = tt
-limited_gives pattern (Some xs) ys (Err (Run BadFormat)) h g = no_text pattern xs ys true (h xs refl) g
-limited_gives pattern want ys (Err (Run _)) h g = absurd g
-limited_gives pattern want ys (Err NoMemory) h g = tt
-
-pub standing_gives : (pattern : List ℕ) (ws : List (Option Arg)) (ys : List Arg) (over : Bool) (r : Result Fresh ThingFault) → AllStand ws ys over → FormatGives pattern (Some ys) r → FormatGives pattern (all_there ws) (limited over r)
-standing_gives pattern ws ys false r h g = subst (λ (args : Option (List Arg)). FormatGives pattern args r) (sym (none_over ws ys h)) g
-standing_gives pattern ws ys true r h g = limited_gives pattern (all_there ws) ys r (λ xs e. near ws ys xs true h e) g
+pub standing_gives : (pattern : List ℕ) (ws ys : List Arg) (over : Bool) (r : Result Fresh ThingFault) → AllStand ws ys over → Gives (format_gives pattern ys) r → Gives (format_gives pattern ws) (unless_over over r)
+standing_gives pattern ws ys false r h g = subst (λ (args : List Arg). Gives (format_gives pattern args) r) (sym (none_over ws ys h)) g
+standing_gives pattern ws ys true r h g = pieces_over (pieces_of (length pattern) pattern) ws ys r h g

@@ -1,19 +1,20 @@
 //! A pattern with the arguments that the right operand of `%` gives (docs/runtime.md, "Formatting").
-ghost use Rattle.std.specs.Prelude.{◌≡◌, Option, List, ℕ, [], ◌∷◌, ◌++◌, Some, IfOk, OnOk, IfErr, map, option_map};
+ghost use Rattle.std.specs.Prelude.{◌≡◌, Option, List, ℕ, [], ◌∷◌, ◌++◌, Some, IfOk, OnOk, IfErr, map};
+ghost use Rattle.gd_text.specs.declared.formatting.Arg.{Arg};
 ghost use Rattle.gd_text.specs.declared.formatting.Arg.TheVariants as arg;
-ghost use Rattle.gd_ops.specs.Printed.{GivesForm};
-ghost use Rattle.gd_ops.specs.Formatted as spec;
-ghost use Rattle.gd_ops.specs.Formatted.{FormatGives};
-ghost use Rattle.gd_ops.specs.Arguments.{IsArgument, AllStand, limited};
+ghost use Rattle.gd_model.specs.Meant.{datum};
+ghost use Rattle.gd_model.specs.Whole.{Whole, AllWhole};
+ghost use Rattle.gd_answers.specs.Answers.{Answers, Gives};
+ghost use Rattle.value_semantics.specs.Formatting as spec;
+ghost use Rattle.value_semantics.specs.Made.{limited};
+ghost use Rattle.gd_printing.specs.Arguments.{IsArgument, AllStand, unless_over};
 
-use crate::fresh::{Fresh, refused};
 use crate::print::text_of;
-use crate::texts::formatted;
-use crate::there::there;
-use gd_containers::{Look, ThingFault};
+use gd_answers::{Fresh, refused};
+use gd_containers::{Look, ThingFault, array_of};
 use gd_model::{RunFault, Value};
 use gd_syntax::{Text, TextFault};
-use gd_text::Arg;
+use gd_text::{Arg, FormatFault, format};
 use smallvec::SmallVec;
 use std::alloc::Global;
 
@@ -36,11 +37,24 @@ pub fn format_with<K: Look>(
     v: &Value,
     look: &K,
 ) -> Result<Fresh, ThingFault>
-    ensures { FormatGives pattern.now (spec.arguments (K.things look.now) (K.names look.now) v.now) result }
+    requires whole { Whole (K.things look.now) (K.names look.now) v.now }
+    ensures { Gives (spec.format_gives pattern.now (spec.arguments (K.store look.now) (K.names look.now) (datum v.now))) result }
 {
     match v {
-        Value::Array(h) => format_all(alloc, pattern, there(look.array(*h))?.items(), look),
+        Value::Array(h) => format_all(alloc, pattern, array_of(look, *h).items(), look),
         _ => format_one(alloc, pattern, v, look),
+    }
+}
+
+/// The text that the pattern gives with the arguments.
+pub fn formatted(alloc: Global, pattern: &Text, args: &[Arg]) -> Result<Fresh, ThingFault>
+    ensures { Gives (spec.format_gives pattern.now args.now) result }
+{
+    match format(alloc, pattern, args) {
+        Ok(text) => Ok(Fresh::Value(Value::Str(text))),
+        Err(FormatFault::BadFormat) => refused(RunFault::BadFormat),
+        Err(FormatFault::TooLong) => refused(RunFault::TooLong),
+        Err(FormatFault::NoMemory) => Err(ThingFault::NoMemory),
     }
 }
 
@@ -50,7 +64,8 @@ fn format_one<K: Look>(
     v: &Value,
     look: &K,
 ) -> Result<Fresh, ThingFault>
-    ensures { FormatGives pattern.now (spec.all_there (spec.argument (K.things look.now) (K.names look.now) v.now ∷ [])) result }
+    requires whole { Whole (K.things look.now) (K.names look.now) v.now }
+    ensures { Gives (spec.format_gives pattern.now (spec.argument (K.store look.now) (K.names look.now) (datum v.now) ∷ [])) result }
 {
     let mut args = Arguments::new(alloc);
     args.put(alloc, v, look)?;
@@ -63,7 +78,8 @@ fn format_all<K: Look>(
     items: &[Value],
     look: &K,
 ) -> Result<Fresh, ThingFault>
-    ensures { FormatGives pattern.now (spec.all_there (map (spec.argument (K.things look.now) (K.names look.now)) items.now)) result }
+    requires whole { AllWhole (K.things look.now) (K.names look.now) items.now }
+    ensures { Gives (spec.format_gives pattern.now (map (spec.argument (K.store look.now) (K.names look.now)) (map datum items.now))) result }
 {
     let mut args = Arguments::new(alloc);
     for item in items {
@@ -84,7 +100,8 @@ impl Arguments {
 
     /// Puts the argument that the value is at the end; only memory may lack.
     fn put<K: Look>(&mut self, alloc: Global, v: &Value, look: &K) -> Result<(), ThingFault>
-        ensures ok { IfOk result (λ _. (wants : List (Option Arg)) → AllStand wants self.old.list.items self.old.too_long → AllStand (wants ++ spec.argument (K.things look.now) (K.names look.now) v.now ∷ []) self.new.list.items self.new.too_long) }
+        requires whole { Whole (K.things look.now) (K.names look.now) v.now }
+    ensures ok { IfOk result (λ _. (wants : List Arg) → AllStand wants self.old.list.items self.old.too_long → AllStand (wants ++ spec.argument (K.store look.now) (K.names look.now) (datum v.now) ∷ []) self.new.list.items self.new.too_long) }
         ensures err { IfErr result (λ fault. fault ≡ ThingFault.NoMemory) }
     {
         match argument(alloc, v, look)? {
@@ -98,7 +115,7 @@ impl Arguments {
 
     /// The text that the pattern gives with the arguments.
     fn fill(&self, alloc: Global, pattern: &Text) -> Result<Fresh, ThingFault>
-        ensures { (wants : List (Option Arg)) → AllStand wants self.now.list.items self.now.too_long → FormatGives pattern.now (spec.all_there wants) result }
+        ensures { (wants : List Arg) → AllStand wants self.now.list.items self.now.too_long → Gives (spec.format_gives pattern.now wants) result }
     {
         let made = formatted(alloc, pattern, self.list.as_slice());
         within(self.too_long, made)
@@ -107,7 +124,7 @@ impl Arguments {
 
 /// The answer, but `TooLong` in place of a text of which a part passes the limit.
 fn within(too_long: bool, made: Result<Fresh, ThingFault>) -> Result<Fresh, ThingFault>
-    ensures { result ≡ limited too_long made }
+    ensures { result ≡ unless_over too_long made }
 {
     match made {
         Ok(_) if too_long => refused(RunFault::TooLong),
@@ -137,7 +154,8 @@ fn empty(alloc: Global) -> Result<Text, ThingFault>
 
 /// The argument that the value is, or none where its printed form passes the limit of a text.
 fn argument<K: Look>(alloc: Global, v: &Value, look: &K) -> Result<Option<Arg>, ThingFault>
-    ensures { IsArgument (spec.argument (K.things look.now) (K.names look.now) v.now) result }
+    requires whole { Whole (K.things look.now) (K.names look.now) v.now }
+    ensures { IsArgument (spec.argument (K.store look.now) (K.names look.now) (datum v.now)) result }
 {
     match v {
         Value::Int(n) => Ok(Some(Arg::Num(*n))),
@@ -148,7 +166,7 @@ fn argument<K: Look>(alloc: Global, v: &Value, look: &K) -> Result<Option<Arg>, 
 
 /// The argument with a printed form that was made, or none where it passes the limit of a text.
 fn other(made: Result<Text, ThingFault>) -> Result<Option<Arg>, ThingFault>
-    ensures { (form : Option (List ℕ)) → GivesForm form made → IsArgument (option_map arg.Other form) result }
+    ensures { (form : List ℕ) → Answers (limited form) made → IsArgument (arg.Other form) result }
 {
     match made {
         Ok(text) => Ok(Some(Arg::Other(text))),

@@ -4,5 +4,5 @@
 mod arguments;
 mod print;
 
-pub use arguments::format_with;
+pub use arguments::{format_with, formatted};
 pub use print::{joined, text_of};

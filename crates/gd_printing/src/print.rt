@@ -1,17 +1,21 @@
 //! The printed forms of values.
-ghost use Rattle.std.specs.Prelude.{◌≡◌, ◌∷◌, [], codes, map, option_and_then};
+ghost use Rattle.std.specs.Prelude.{◌≡◌, ◌∷◌, [], codes, map, List, Option, ℕ};
 ghost use Rattle.std.specs.Fmt.{decimal, signed_decimal};
-ghost use Rattle.gd_model.specs.Store.{array_behind, dict_behind, class_behind};
-ghost use Rattle.gd_containers.specs.Keys.{key_value};
-ghost use Rattle.gd_ops.specs.Printed as spec;
-ghost use Rattle.gd_ops.specs.Printed.{Puts, GivesForm, GivesFormString};
+ghost use Rattle.gd_model.specs.declared.value.Value.TheVariants as v;
+ghost use Rattle.gd_model.specs.Datum.{Datum};
+ghost use Rattle.gd_model.specs.Meant.{datum, pair_datum};
+ghost use Rattle.gd_model.specs.KeyDatum.{key_datum};
+ghost use Rattle.gd_model.specs.Store.{array_at, dict_at, class_name_at};
+ghost use Rattle.gd_model.specs.Whole.{Whole, AllWhole, key_value, pair_values};
+ghost use Rattle.gd_answers.specs.Answers.{Answers, Gives};
+ghost use Rattle.value_semantics.specs.Made.{limited, text_made};
+ghost use Rattle.value_semantics.specs.Printed as spec;
+ghost use Rattle.gd_printing.specs.Puts.{Puts};
 
-use crate::fresh::Fresh;
-use crate::texts::text_refusal;
-use crate::there::there;
-use gd_containers::{Look, OrderedDict, ThingFault, TypedArray};
+use gd_answers::Fresh;
+use gd_containers::{Look, OrderedDict, ThingFault, TypedArray, array_of, class_name_of, dict_of};
 use gd_model::{Key, RunFault, Value};
-use gd_syntax::{MAX_TEXT, Text};
+use gd_syntax::{MAX_TEXT, Text, TextFault};
 use itoa::Buffer;
 use slot_arena::Handle;
 use std::alloc::Global;
@@ -21,7 +25,8 @@ const DEEPEST: u32 = 16;
 
 /// The printed form of the value. `TooLong` exactly where it passes the limit of a text.
 pub fn text_of<K: Look>(alloc: Global, v: &Value, look: &K) -> Result<Text, ThingFault>
-    ensures { GivesForm (spec.printed (K.things look.now) (K.names look.now) v.now) result }
+    requires whole { Whole (K.things look.now) (K.names look.now) v.now }
+    ensures { Answers (limited (spec.printed (K.store look.now) (K.names look.now) (datum v.now))) result }
 {
     match v {
         Value::Str(text) => Ok(text.share()?),
@@ -34,17 +39,19 @@ pub fn text_of<K: Look>(alloc: Global, v: &Value, look: &K) -> Result<Text, Thin
 }
 
 fn made(chars: Vec<char>) -> Result<Text, ThingFault>
-    ensures { GivesForm (Some chars.items) result }
+    ensures { Answers (limited chars.items) result }
 {
     match Text::of(chars) {
         Ok(text) => Ok(text),
-        Err(fault) => Err(text_refusal(fault)),
+        Err(TextFault::TooLong) => Err(ThingFault::Run(RunFault::TooLong)),
+        Err(TextFault::NoMemory) => Err(ThingFault::NoMemory),
+        Err(TextFault::NotUtf8 | TextFault::OutOfRange) => unreachable!(),
     }
 }
 
 /// Puts the characters at the end. `TooLong` exactly where the whole would pass the limit of a text.
 fn put_chars(out: &mut Vec<char>, more: &[char]) -> Result<(), ThingFault>
-    ensures { Puts (Some more.now) out.old.items out.new.items result }
+    ensures { Puts more.now out.old.items out.new.items result }
 {
     if more.len() > MAX_TEXT.saturating_sub(out.len()) {
         return Err(ThingFault::Run(RunFault::TooLong));
@@ -56,20 +63,20 @@ fn put_chars(out: &mut Vec<char>, more: &[char]) -> Result<(), ThingFault>
 }
 
 fn put(out: &mut Vec<char>, c: char) -> Result<(), ThingFault>
-    ensures { Puts (Some (c ∷ [])) out.old.items out.new.items result }
+    ensures { Puts (c ∷ []) out.old.items out.new.items result }
 {
     put_chars(out, &[c])
 }
 
 fn put_text(out: &mut Vec<char>, text: &Text) -> Result<(), ThingFault>
-    ensures { Puts (Some text.now) out.old.items out.new.items result }
+    ensures { Puts text.now out.old.items out.new.items result }
 {
     put_chars(out, text.chars())
 }
 
 /// Puts a word of ASCII characters at the end.
 fn put_word(out: &mut Vec<char>, word: &str) -> Result<(), ThingFault>
-    ensures { Puts (Some word.now) out.old.items out.new.items result }
+    ensures { Puts word.now out.old.items out.new.items result }
 {
     if word.len() > MAX_TEXT.saturating_sub(out.len()) {
         return Err(ThingFault::Run(RunFault::TooLong));
@@ -84,7 +91,7 @@ fn put_word(out: &mut Vec<char>, word: &str) -> Result<(), ThingFault>
 
 /// A String inside a container: in double quotes, with a backslash before what needs one.
 fn put_quoted(out: &mut Vec<char>, text: &Text) -> Result<(), ThingFault>
-    ensures { Puts (Some (spec.quoted text.now)) out.old.items out.new.items result }
+    ensures { Puts (spec.quoted text.now) out.old.items out.new.items result }
 {
     put(out, '"')?;
     put_escaped(out, text.chars())?;
@@ -92,7 +99,7 @@ fn put_quoted(out: &mut Vec<char>, text: &Text) -> Result<(), ThingFault>
 }
 
 fn put_escaped(out: &mut Vec<char>, text: &[char]) -> Result<(), ThingFault>
-    ensures { Puts (Some (spec.escaped text.now)) out.old.items out.new.items result }
+    ensures { Puts (spec.escaped text.now) out.old.items out.new.items result }
 {
     for c in text {
         put_escape(out, *c)?;
@@ -101,7 +108,7 @@ fn put_escaped(out: &mut Vec<char>, text: &[char]) -> Result<(), ThingFault>
 }
 
 fn put_escape(out: &mut Vec<char>, c: char) -> Result<(), ThingFault>
-    ensures { Puts (Some (spec.behind_backslash c (spec.escape_letter c))) out.old.items out.new.items result }
+    ensures { Puts (spec.behind_backslash c (spec.escape_letter c)) out.old.items out.new.items result }
 {
     match escape_letter(c) {
         Some(letter) => {
@@ -130,33 +137,32 @@ fn escape_letter(c: char) -> Option<char>
 }
 
 fn put_int(out: &mut Vec<char>, n: i64) -> Result<(), ThingFault>
-    ensures { Puts (Some (signed_decimal n)) out.old.items out.new.items result }
+    ensures { Puts (signed_decimal n) out.old.items out.new.items result }
 {
     let mut buffer = Buffer::new();
     put_word(out, buffer.format(n))
 }
 
 fn put_serial(out: &mut Vec<char>, n: u64) -> Result<(), ThingFault>
-    ensures { Puts (Some (decimal n)) out.old.items out.new.items result }
+    ensures { Puts (decimal n) out.old.items out.new.items result }
 {
     let mut buffer = Buffer::new();
     put_word(out, buffer.format(n))
 }
 
 fn put_object<K: Look>(out: &mut Vec<char>, h: Handle, look: &K) -> Result<(), ThingFault>
-    ensures { Puts (spec.object_form h.serial (option_and_then (K.names look.now) (class_behind (K.things look.now h)))) out.old.items out.new.items result }
+    requires whole { Whole (K.things look.now) (K.names look.now) (v.Object h) }
+    ensures { Puts (spec.object_form h.serial (class_name_at (K.store look.now) (K.names look.now) h.serial)) out.old.items out.new.items result }
 {
-    let class = there(look.class_of(h))?;
-    let name = there(look.class_name(class))?;
     put(out, '<')?;
-    put_text(out, name)?;
+    put_text(out, class_name_of(look, h))?;
     put(out, '#')?;
     put_serial(out, h.serial)?;
     put(out, '>')
 }
 
 fn put_named(out: &mut Vec<char>, word: &str, name: &Text) -> Result<(), ThingFault>
-    ensures { Puts (Some (spec.named word.now name.now)) out.old.items out.new.items result }
+    ensures { Puts (spec.named word.now name.now) out.old.items out.new.items result }
 {
     put_word(out, word)?;
     put_text(out, name)?;
@@ -164,7 +170,8 @@ fn put_named(out: &mut Vec<char>, word: &str, name: &Text) -> Result<(), ThingFa
 }
 
 fn put_key<K: Look>(out: &mut Vec<char>, key: &Key, look: &K) -> Result<(), ThingFault>
-    ensures { Puts (spec.plain_form (K.things look.now) (K.names look.now) (key_value key.now)) out.old.items out.new.items result }
+    requires whole { Whole (K.things look.now) (K.names look.now) (key_value key.now) }
+    ensures { (inside : Option (Datum → List ℕ)) → Puts (spec.form_by (K.store look.now) (K.names look.now) inside (key_datum key.now)) out.old.items out.new.items result }
 {
     match key {
         Key::Nil => put_word(out, "<null>"),
@@ -179,7 +186,8 @@ fn put_key<K: Look>(out: &mut Vec<char>, key: &Key, look: &K) -> Result<(), Thin
 /// A value inside of a container; `room` is how many containers may still lie inside one another.
 #[cycle(print)]
 fn put_value<K: Look>(out: &mut Vec<char>, v: &Value, look: &K, room: u32) -> Result<(), ThingFault>
-    ensures { Puts (spec.form_by (K.things look.now) (K.names look.now) (spec.inside (K.things look.now) (K.names look.now) room) v.now) out.old.items out.new.items result }
+    requires whole { Whole (K.things look.now) (K.names look.now) v.now }
+    ensures { Puts (spec.form_by (K.store look.now) (K.names look.now) (spec.inside (K.store look.now) (K.names look.now) room) (datum v.now)) out.old.items out.new.items result }
 {
     match v {
         Value::Nil => put_word(out, "<null>"),
@@ -190,21 +198,21 @@ fn put_value<K: Look>(out: &mut Vec<char>, v: &Value, look: &K, room: u32) -> Re
         Value::Object(h) => put_object(out, *h, look),
         Value::Array(h) => put_array(out, *h, look, room),
         Value::Dict(h) => put_dict(out, *h, look, room),
-        Value::Callable(target) => put_named(out, "<callable ", &target.name),
-        Value::Signal(_, name) => put_named(out, "<signal ", name),
+        Value::Callable(target) => put_named(out, "<callable ", &target.get().name),
+        Value::Signal(source) => put_named(out, "<signal ", &source.get().name),
     }
 }
 
 #[cycle(print)]
 fn put_array<K: Look>(out: &mut Vec<char>, h: Handle, look: &K, room: u32) -> Result<(), ThingFault>
-    ensures { Puts (spec.array_form (spec.inside (K.things look.now) (K.names look.now) room) (array_behind (K.things look.now h))) out.old.items out.new.items result }
+    requires whole { Whole (K.things look.now) (K.names look.now) (v.Array h) }
+    ensures { Puts (spec.array_form (spec.inside (K.store look.now) (K.names look.now) room) (array_at (K.store look.now) h.serial)) out.old.items out.new.items result }
 {
     if room == 0 {
         return put_word(out, "[...]");
     }
-    let array = there(look.array(h))?;
     put(out, '[')?;
-    put_items(out, array.items(), look, room - 1)?;
+    put_items(out, array_of(look, h).items(), look, room - 1)?;
     put(out, ']')
 }
 
@@ -215,7 +223,8 @@ fn put_items<K: Look>(
     look: &K,
     room: u32,
 ) -> Result<(), ThingFault>
-    ensures { Puts (spec.all_forms (codes ", ") (map (spec.form_by (K.things look.now) (K.names look.now) (spec.inside (K.things look.now) (K.names look.now) room)) items.now)) out.old.items out.new.items result }
+    requires whole { AllWhole (K.things look.now) (K.names look.now) items.now }
+    ensures { Puts (spec.all_forms (codes ", ") (map (spec.form_by (K.store look.now) (K.names look.now) (spec.inside (K.store look.now) (K.names look.now) room)) (map datum items.now))) out.old.items out.new.items result }
 {
     let [first, rest @ ..] = items else {
         return Ok(());
@@ -230,12 +239,13 @@ fn put_items<K: Look>(
 
 #[cycle(print)]
 fn put_dict<K: Look>(out: &mut Vec<char>, h: Handle, look: &K, room: u32) -> Result<(), ThingFault>
-    ensures { Puts (spec.dict_form (spec.plain_form (K.things look.now) (K.names look.now)) (spec.inside (K.things look.now) (K.names look.now) room) (dict_behind (K.things look.now h))) out.old.items out.new.items result }
+    requires whole { Whole (K.things look.now) (K.names look.now) (v.Dict h) }
+    ensures { Puts (spec.dict_form (spec.inside (K.store look.now) (K.names look.now) room) (dict_at (K.store look.now) h.serial)) out.old.items out.new.items result }
 {
     if room == 0 {
         return put_word(out, "{...}");
     }
-    let dict = there(look.dict(h))?;
+    let dict = dict_of(look, h);
     if dict.size() == 0 {
         return put_word(out, "{  }");
     }
@@ -251,7 +261,8 @@ fn put_pairs<K: Look>(
     look: &K,
     room: u32,
 ) -> Result<(), ThingFault>
-    ensures { Puts (spec.all_forms (codes ", ") (map (spec.pair_form (spec.plain_form (K.things look.now) (K.names look.now)) (spec.form_by (K.things look.now) (K.names look.now) (spec.inside (K.things look.now) (K.names look.now) room))) dict.now.pairs)) out.old.items out.new.items result }
+    requires whole { AllWhole (K.things look.now) (K.names look.now) (pair_values dict.now.pairs) }
+    ensures { Puts (spec.all_forms (codes ", ") (map (spec.pair_form (spec.form_by (K.store look.now) (K.names look.now) (spec.inside (K.store look.now) (K.names look.now) room))) (map pair_datum dict.now.pairs))) out.old.items out.new.items result }
 {
     let Some((key, value)) = dict.at(0) else {
         return Ok(());
@@ -275,7 +286,9 @@ fn put_pair<K: Look>(
     look: &K,
     room: u32,
 ) -> Result<(), ThingFault>
-    ensures { Puts (spec.pair_form (spec.plain_form (K.things look.now) (K.names look.now)) (spec.form_by (K.things look.now) (K.names look.now) (spec.inside (K.things look.now) (K.names look.now) room)) (key.now, value.now)) out.old.items out.new.items result }
+    requires whole_key { Whole (K.things look.now) (K.names look.now) (key_value key.now) }
+    requires whole_value { Whole (K.things look.now) (K.names look.now) value.now }
+    ensures { Puts (spec.pair_form (spec.form_by (K.store look.now) (K.names look.now) (spec.inside (K.store look.now) (K.names look.now) room)) (pair_datum (key.now, value.now))) out.old.items out.new.items result }
 {
     put_key(out, key, look)?;
     put_word(out, ": ")?;
@@ -283,7 +296,8 @@ fn put_pair<K: Look>(
 }
 
 fn put_printed<K: Look>(out: &mut Vec<char>, v: &Value, look: &K) -> Result<(), ThingFault>
-    ensures { Puts (spec.printed (K.things look.now) (K.names look.now) v.now) out.old.items out.new.items result }
+    requires whole { Whole (K.things look.now) (K.names look.now) v.now }
+    ensures { Puts (spec.printed (K.store look.now) (K.names look.now) (datum v.now)) out.old.items out.new.items result }
 {
     match v {
         Value::Str(text) => put_text(out, text),
@@ -297,7 +311,8 @@ fn put_all_printed<K: Look>(
     between: &[char],
     look: &K,
 ) -> Result<(), ThingFault>
-    ensures { Puts (spec.all_printed (K.things look.now) (K.names look.now) between.now values.now) out.old.items out.new.items result }
+    requires whole { AllWhole (K.things look.now) (K.names look.now) values.now }
+    ensures { Puts (spec.all_printed (K.store look.now) (K.names look.now) between.now (map datum values.now)) out.old.items out.new.items result }
 {
     let [first, rest @ ..] = values else {
         return Ok(());
@@ -317,7 +332,8 @@ pub fn joined<K: Look>(
     between: &[char],
     look: &K,
 ) -> Result<Fresh, ThingFault>
-    ensures { GivesFormString (spec.all_printed (K.things look.now) (K.names look.now) between.now values.now) result }
+    requires whole { AllWhole (K.things look.now) (K.names look.now) values.now }
+    ensures { Gives (text_made (spec.all_printed (K.store look.now) (K.names look.now) between.now (map datum values.now))) result }
 {
     let mut out = Vec::new(alloc);
     put_all_printed(&mut out, values, between, look)?;

@@ -1,4 +1,5 @@
 pub mod Digits
+pub mod Formatted
 pub mod Places
 pub mod Prefixes
 pub mod Readings

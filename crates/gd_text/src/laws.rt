@@ -1,9 +1,10 @@
 //! Laws of the definition of formatting: it gives one text, and its numbers are numerals.
-ghost use Rattle.std.specs.Prelude.{◌≡◌, ◌^◌, ◌<◌, List, ℕ};
+ghost use Rattle.std.specs.Prelude.{◌≡◌, ◌^◌, ◌<◌, ◌↔◌, List, ℕ, Some};
 ghost use Rattle.gd_text.specs.declared.formatting.Arg.{Arg};
 ghost use Rattle.gd_text.specs.declared.pattern.Letter.{Letter};
 ghost use Rattle.gd_text.specs.declared.pattern.Piece.{Piece};
 ghost use Rattle.gd_text.specs.Format.{IsFormatted, digits_under};
+ghost use Rattle.gd_text.specs.Formatted.{formatted};
 ghost use Rattle.gd_text.specs.Numerals.{IsNumeralOf, base_of};
 ghost use Rattle.gd_text.specs.Pattern.{IsPattern};
 
@@ -17,6 +18,11 @@ pub fn one_reading()
 pub fn one_text()
     ensures { (a : List ℕ) (args : List Arg) (t : List ℕ) (u : List ℕ)
         → IsFormatted a args t → IsFormatted a args u → t ≡ u }
+{}
+
+/// A pattern gives a text with its arguments exactly where that is the one of the function.
+pub fn formatted_text()
+    ensures { (a : List ℕ) (args : List Arg) (t : List ℕ) → IsFormatted a args t ↔ (formatted a args ≡ Some t) }
 {}
 
 /// What stands for a magnitude of 64 bits is its numeral in the base of the letter.

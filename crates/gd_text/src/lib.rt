@@ -16,6 +16,6 @@ mod tests;
 pub use cut::{left, right, strip, substr};
 pub use formatting::{Arg, FormatFault, format};
 pub use join::{concat, repeat};
-pub use laws::{numerals, one_reading, one_text};
+pub use laws::{formatted_text, numerals, one_reading, one_text};
 pub use number::{decimal, is_valid_int, to_int};
 pub use search::{find, replace, split};

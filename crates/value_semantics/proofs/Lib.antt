@@ -1,2 +1,3 @@
 pub mod BuiltinTable
+pub mod Made
 pub mod OperatorTable

@@ -1,6 +1,7 @@
-use Rattle.std.proofs.Common.{◌≡◌, ◌+◌, ◌*◌, Some, codes, map, drop}
-use Rattle.gd_ops.specs.Printed.{both, more_forms, all_forms, form_by, pair_form, plain_form, inside}
-use Rattle.gd_ops.proofs.print.+print.Given as goal
+use Rattle.std.proofs.Common.{◌≡◌, ◌+◌, ◌*◌, ◌++◌, codes, map, drop}
+use Rattle.gd_model.specs.Meant.{datum, pair_datum}
+use Rattle.value_semantics.specs.Printed.{more_forms, all_forms, form_by, pair_form, inside}
+use Rattle.gd_printing.proofs.print.+print.Given as goal
 
 abbrev pub decreases-put_value : goal.decreases-put_value
 decreases-put_value g l = 4 * l.room + 3
@@ -22,7 +23,15 @@ decreases-put_pair g l = 4 * l.room + 4
 
 -- what was put and the forms that are left make the whole
 abbrev pub invariant-put_items-loop-item : goal.invariant-put_items-loop-item
-invariant-put_items-loop-item g l = both (Some l.out.items) (more_forms (codes ", ") (map (form_by (g.K.Look.things l.look) (g.K.Look.names l.look) (inside (g.K.Look.things l.look) (g.K.Look.names l.look) l.room)) (drop l.item-index l.rest))) ≡ both (Some l.fn.out.items) (all_forms (codes ", ") (map (form_by (g.K.Look.things l.look) (g.K.Look.names l.look) (inside (g.K.Look.things l.look) (g.K.Look.names l.look) l.room)) l.items))
+invariant-put_items-loop-item g l =
+    let S = g.K.Look.store l.look in
+    let N = g.K.Look.names l.look in
+    let F = form_by S N (inside S N l.room) in
+    l.out.items ++ more_forms (codes ", ") (map F (map datum (drop l.item-index l.rest))) ≡ l.fn.out.items ++ all_forms (codes ", ") (map F (map datum l.items))
 
 abbrev pub invariant-put_pairs-loop-i : goal.invariant-put_pairs-loop-i
-invariant-put_pairs-loop-i g l = both (Some l.out.items) (more_forms (codes ", ") (map (pair_form (plain_form (g.K.Look.things l.look) (g.K.Look.names l.look)) (form_by (g.K.Look.things l.look) (g.K.Look.names l.look) (inside (g.K.Look.things l.look) (g.K.Look.names l.look) l.room))) (drop l.i l.dict.pairs))) ≡ both (Some l.fn.out.items) (all_forms (codes ", ") (map (pair_form (plain_form (g.K.Look.things l.look) (g.K.Look.names l.look)) (form_by (g.K.Look.things l.look) (g.K.Look.names l.look) (inside (g.K.Look.things l.look) (g.K.Look.names l.look) l.room))) l.dict.pairs))
+invariant-put_pairs-loop-i g l =
+    let S = g.K.Look.store l.look in
+    let N = g.K.Look.names l.look in
+    let F = pair_form (form_by S N (inside S N l.room)) in
+    l.out.items ++ more_forms (codes ", ") (map F (map pair_datum (drop l.i l.dict.pairs))) ≡ l.fn.out.items ++ all_forms (codes ", ") (map F (map pair_datum l.dict.pairs))

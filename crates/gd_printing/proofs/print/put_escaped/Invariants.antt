@@ -1,6 +1,6 @@
 use Rattle.std.proofs.Common.{◌≡◌, ◌++◌, drop}
-use Rattle.gd_ops.specs.Printed.{escaped}
-use Rattle.gd_ops.proofs.print.put_escaped.Given as goal
+use Rattle.value_semantics.specs.Printed.{escaped}
+use Rattle.gd_printing.proofs.print.put_escaped.Given as goal
 
 -- what was put and what is left make the whole
 abbrev pub invariant-loop-c : goal.invariant-loop-c

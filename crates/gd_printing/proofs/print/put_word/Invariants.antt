@@ -1,5 +1,5 @@
 use Rattle.std.proofs.Common.{◌≡◌, ◌++◌, take}
-use Rattle.gd_ops.proofs.print.put_word.Given as goal
+use Rattle.gd_printing.proofs.print.put_word.Given as goal
 
 abbrev pub invariant-loop-byte : goal.invariant-loop-byte
 invariant-loop-byte l = l.out.items ≡ l.fn.out.items ++ take l.byte-index l.fn.word
