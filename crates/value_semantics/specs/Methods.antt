@@ -24,7 +24,7 @@ use Rattle.value_semantics.specs.Printed.{all_printed}
 
 -- arguments that fit no form of a call: their number, or else the kind of one
 abbrev pub misfit : {A : Type 0} → ℕ → ℕ → List Datum → Result A RunFault
-misfit least most args = Some (Err (if nat_lt (length args) least || nat_lt most (length args) then WrongNumberOfArguments else ValueOfAnotherType))
+misfit least most args = Err (if nat_lt (length args) least || nat_lt most (length args) then WrongNumberOfArguments else ValueOfAnotherType)
 
 -- a call without arguments
 abbrev pub alone : Result Made RunFault → List Datum → Result Made RunFault
@@ -59,7 +59,7 @@ split_args args = misfit 0 2 args
 -- the methods of a String without arguments
 abbrev pub text_alone : Builtin → List ℕ → Result Made RunFault
 text_alone b.StringLength a = Ok (int_made (pos (length a)))
-text_alone b.StringIsEmpty a = Some (Ok (bool_made (length a == 0)))
+text_alone b.StringIsEmpty a = Ok (bool_made (length a == 0))
 text_alone b.StringIsValidInt a = Ok (bool_made (is_valid_int a))
 text_alone b.StringToInt a = Ok (int_made (to_int a))
 text_alone b.StringStripEdges a = text_made (stripped a)
@@ -164,11 +164,11 @@ place_gives store a p = in_form place_made (place_of store a p)
 -- the methods of an Array without arguments
 abbrev pub array_alone : Builtin → ArrayThing → Result Made RunFault
 array_alone b.ArraySize a = Ok (int_made (pos (length a.items)))
-array_alone b.ArrayIsEmpty a = Some (Ok (bool_made (length a.items == 0)))
+array_alone b.ArrayIsEmpty a = Ok (bool_made (length a.items == 0))
 array_alone b.ArrayIsReadOnly a = Ok (bool_made a.fixed)
 array_alone b.ArrayFront a = Ok (item_or_null (element_at a.items (pos 0)))
 array_alone b.ArrayBack a = Ok (item_or_null (element_at a.items (negsuc 0)))
-array_alone b.ArrayDuplicate a = Some (Ok (array (record a { fixed = false })))
+array_alone b.ArrayDuplicate a = Ok (array (record a { fixed = false }))
 array_alone method a = Err NoSuchMethod
 
 -- the methods of an Array
@@ -199,7 +199,7 @@ dict_copy m = record m { fixed = false }
 -- the methods of a Dictionary without arguments
 abbrev pub dict_alone : Builtin → DictThing → Result Made RunFault
 dict_alone b.DictionarySize m = Ok (int_made (pos (length m.pairs)))
-dict_alone b.DictionaryIsEmpty m = Some (Ok (bool_made (length m.pairs == 0)))
+dict_alone b.DictionaryIsEmpty m = Ok (bool_made (length m.pairs == 0))
 dict_alone b.DictionaryIsReadOnly m = Ok (bool_made m.fixed)
 dict_alone b.DictionaryKeys m = Ok (array (keys_array m.pairs))
 dict_alone b.DictionaryValues m = Ok (array (values_array m.pairs))
