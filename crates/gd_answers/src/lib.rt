@@ -2,5 +2,7 @@
 #![tactic(auto)]
 
 mod fresh;
+mod texts;
 
 pub use fresh::{Fresh, boolean, int, refused};
+pub use texts::{text, text_refusal};

@@ -1,5 +1,6 @@
 -- The ints of a range.
-use Rattle.std.specs.Prelude.{ℕ, zero, suc, ◌+◌, ◌-◌, ◌/◌, ℤ, pos, negsuc, ◌+ℤ◌, int_lt, unsigned_abs, ◌-ℤ◌, nat_le, Bool, ◌&&◌, ◌||◌, false, List, [], ◌∷◌, Result, Ok, Err, if◌then◌else◌}
+use Rattle.std.specs.Prelude.{ℕ, zero, suc, ℤ, pos, ◌+ℤ◌, int_lt, unsigned_abs, ◌-ℤ◌, nat_le, Bool, ◌&&◌, ◌||◌, false, List, [], ◌∷◌, Result, Ok, Err, if◌then◌else◌}
+use Rattle.std.specs.Int.{div_ceil}
 use Rattle.std.specs.Ordering.{int_eq}
 use Rattle.gd_model.specs.declared.fault.RunFault.{RunFault}
 use Rattle.gd_model.specs.declared.fault.RunFault.TheVariants.{ZeroDivisorOrStep, TooLong}
@@ -16,7 +17,7 @@ comes_before step end n = (int_lt (pos 0) step && int_lt n end) || (int_lt step 
 -- how many ints a range has: as many steps, each begun one counting whole, as lie between its first int and its end
 abbrev pub range_size : ℤ → ℤ → ℤ → ℕ
 range_size first end step =
-    if comes_before step end first then (unsigned_abs (end -ℤ first) + (unsigned_abs step - 1)) / unsigned_abs step else 0
+    if comes_before step end first then div_ceil (unsigned_abs (end -ℤ first)) (unsigned_abs step) else 0
 
 -- the first k ints from n on by `step`
 abbrev pub ints_from : ℤ → ℤ → ℕ → List Datum
