@@ -1,11 +1,15 @@
 //! When two values are equal.
-ghost use Rattle.std.specs.Prelude.{◌≡◌, length};
-ghost use Rattle.gd_ops.specs.Answer.{exact};
-ghost use Rattle.gd_ops.specs.Equality as spec;
+ghost use Rattle.std.specs.Prelude.{◌≡◌, length, map};
+ghost use Rattle.gd_model.specs.declared.value.Value.TheVariants as v;
+ghost use Rattle.gd_model.specs.Meant.{callee, datum, pair_datum};
+ghost use Rattle.gd_model.specs.Same as meant;
+ghost use Rattle.gd_model.specs.Whole.{AllWhole, Whole, pair_values};
+ghost use Rattle.gd_answers.specs.Answers.{exact};
+ghost use Rattle.value_semantics.specs.Equality as spec;
 
-use crate::there::there;
-use gd_containers::{Look, OrderedDict, ThingFault};
-use gd_model::{RunFault, Target, Value};
+use gd_answers::refused;
+use gd_containers::{Look, OrderedDict, ThingFault, array_of, dict_of};
+use gd_model::{RunFault, SignalSource, Target, Value};
 use slot_arena::Handle;
 
 /// How many containers deep two values are compared.
@@ -14,7 +18,9 @@ pub const DEEPEST: u32 = 64;
 /// Whether the two values are of one kind and equal: arrays element by element, dictionaries by their keys, in the
 /// order of `a`. `TooDeepToCompare` where a pair of containers that are not one thing lies more than 64 levels deep.
 pub fn same<K: Look>(a: &Value, b: &Value, look: &K) -> Result<bool, ThingFault>
-    ensures { result ≡ exact (spec.same (K.things look.now) a.now b.now) }
+    requires left { Whole (K.things look.now) (K.names look.now) a.now }
+    requires right { Whole (K.things look.now) (K.names look.now) b.now }
+    ensures { result ≡ exact (spec.same (K.store look.now) (datum a.now) (datum b.now)) }
 {
     same_within(a, b, look, DEEPEST)
 }
@@ -22,7 +28,9 @@ pub fn same<K: Look>(a: &Value, b: &Value, look: &K) -> Result<bool, ThingFault>
 /// `room` is how many containers may still lie inside one another.
 #[cycle(same)]
 fn same_within<K: Look>(a: &Value, b: &Value, look: &K, room: u32) -> Result<bool, ThingFault>
-    ensures { result ≡ exact (spec.same_by (K.things look.now) (spec.inside (K.things look.now) room) a.now b.now) }
+    requires left { Whole (K.things look.now) (K.names look.now) a.now }
+    requires right { Whole (K.things look.now) (K.names look.now) b.now }
+    ensures { result ≡ exact (spec.same_by (K.store look.now) (spec.inside (K.store look.now) room) (datum a.now) (datum b.now)) }
 {
     match (a, b) {
         (Value::Array(h), Value::Array(i)) if h.serial != i.serial => {
@@ -37,13 +45,15 @@ fn same_within<K: Look>(a: &Value, b: &Value, look: &K, room: u32) -> Result<boo
 
 #[cycle(same)]
 fn same_arrays<K: Look>(h: Handle, i: Handle, look: &K, room: u32) -> Result<bool, ThingFault>
-    ensures { result ≡ exact (spec.arrays_by (K.things look.now) (spec.inside (K.things look.now) room) h i) }
+    requires left { Whole (K.things look.now) (K.names look.now) (v.Array h) }
+    requires right { Whole (K.things look.now) (K.names look.now) (v.Array i) }
+    ensures { result ≡ exact (spec.arrays_by (K.store look.now) (spec.inside (K.store look.now) room) h.serial i.serial) }
 {
     if room == 0 {
-        return Err(ThingFault::Run(RunFault::TooDeepToCompare));
+        return refused(RunFault::TooDeepToCompare);
     }
-    let x = there(look.array(h))?;
-    let y = there(look.array(i))?;
+    let x = array_of(look, h);
+    let y = array_of(look, i);
     if x.size() != y.size() {
         return Ok(false);
     }
@@ -52,8 +62,10 @@ fn same_arrays<K: Look>(h: Handle, i: Handle, look: &K, room: u32) -> Result<boo
 
 #[cycle(same)]
 fn same_items<K: Look>(x: &[Value], y: &[Value], look: &K, room: u32) -> Result<bool, ThingFault>
-    requires { length x.now ≡ length y.now }
-    ensures { result ≡ exact (spec.same_items (spec.same_by (K.things look.now) (spec.inside (K.things look.now) room)) x.now y.now) }
+    requires left { AllWhole (K.things look.now) (K.names look.now) x.now }
+    requires right { AllWhole (K.things look.now) (K.names look.now) y.now }
+    requires sizes { length x.now ≡ length y.now }
+    ensures { result ≡ exact (spec.same_items (spec.same_by (K.store look.now) (spec.inside (K.store look.now) room)) (map datum x.now) (map datum y.now)) }
 {
     for i in 0..x.len() {
         if !same_within(&x[i], &y[i], look, room)? {
@@ -65,13 +77,15 @@ fn same_items<K: Look>(x: &[Value], y: &[Value], look: &K, room: u32) -> Result<
 
 #[cycle(same)]
 fn same_dicts<K: Look>(h: Handle, i: Handle, look: &K, room: u32) -> Result<bool, ThingFault>
-    ensures { result ≡ exact (spec.dicts_by (K.things look.now) (spec.inside (K.things look.now) room) h i) }
+    requires left { Whole (K.things look.now) (K.names look.now) (v.Dict h) }
+    requires right { Whole (K.things look.now) (K.names look.now) (v.Dict i) }
+    ensures { result ≡ exact (spec.dicts_by (K.store look.now) (spec.inside (K.store look.now) room) h.serial i.serial) }
 {
     if room == 0 {
-        return Err(ThingFault::Run(RunFault::TooDeepToCompare));
+        return refused(RunFault::TooDeepToCompare);
     }
-    let x = there(look.dict(h))?;
-    let y = there(look.dict(i))?;
+    let x = dict_of(look, h);
+    let y = dict_of(look, i);
     if x.size() != y.size() {
         return Ok(false);
     }
@@ -85,7 +99,9 @@ fn same_pairs<K: Look>(
     look: &K,
     room: u32,
 ) -> Result<bool, ThingFault>
-    ensures { result ≡ exact (spec.same_pairs (spec.same_by (K.things look.now) (spec.inside (K.things look.now) room)) x.now.pairs y.now.pairs) }
+    requires left { AllWhole (K.things look.now) (K.names look.now) (pair_values x.now.pairs) }
+    requires right { AllWhole (K.things look.now) (K.names look.now) (pair_values y.now.pairs) }
+    ensures { result ≡ exact (spec.same_pairs (spec.same_by (K.store look.now) (spec.inside (K.store look.now) room)) (map pair_datum x.now.pairs) (map pair_datum y.now.pairs)) }
 {
     for i in 0..x.size() {
         let Some((key, a)) = x.at(i) else {
@@ -103,7 +119,7 @@ fn same_pairs<K: Look>(
 
 /// Whether the two are of one kind and equal, things being equal where they are one thing.
 pub fn is_same(a: &Value, b: &Value) -> bool
-    ensures { result ≡ spec.is_same a.now b.now }
+    ensures { result ≡ meant.is_same (datum a.now) (datum b.now) }
 {
     match (a, b) {
         (Value::Nil, Value::Nil) => true,
@@ -113,25 +129,32 @@ pub fn is_same(a: &Value, b: &Value) -> bool
         (Value::Object(h), Value::Object(i)) => h.serial == i.serial,
         (Value::Array(h), Value::Array(i)) => h.serial == i.serial,
         (Value::Dict(h), Value::Dict(i)) => h.serial == i.serial,
-        (Value::Callable(s), Value::Callable(t)) => same_target(s, t),
-        (Value::Signal(h, n), Value::Signal(i, m)) => h.serial == i.serial && *n == *m,
+        (Value::Callable(s), Value::Callable(t)) => same_target(s.get(), t.get()),
+        (Value::Signal(s), Value::Signal(t)) => same_source(s.get(), t.get()),
         _ => false,
     }
 }
 
 /// Two Callables are equal where their object, or else their class, and their name are.
 fn same_target(s: &Target, t: &Target) -> bool
-    ensures { result ≡ spec.same_target s.now t.now }
+    ensures { result ≡ meant.same_target (callee s.now) (callee t.now) }
 {
     same_receiver(s, t) && s.name == t.name
 }
 
 fn same_receiver(s: &Target, t: &Target) -> bool
-    ensures { result ≡ spec.same_receiver s.now.object t.now.object s.now.class t.now.class }
+    ensures { result ≡ meant.same_receiver (callee s.now).object (callee t.now).object s.now.class t.now.class }
 {
     match (s.object, t.object) {
         (Some(h), Some(i)) => h.serial == i.serial,
         (None, None) => s.class == t.class,
         _ => false,
     }
+}
+
+/// Two signals are equal where they are of one object and under one name.
+fn same_source(s: &SignalSource, t: &SignalSource) -> bool
+    ensures { result ≡ meant.is_same (datum (v.Signal s.now)) (datum (v.Signal t.now)) }
+{
+    s.emitter.serial == t.emitter.serial && s.name == t.name
 }

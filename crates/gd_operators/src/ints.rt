@@ -1,15 +1,23 @@
 //! The operators on ints, which wrap at 64 bits.
-ghost use Rattle.std.specs.Prelude.{◌≡◌, ◌^◌, ◌%◌, ◌<◌, ℤ, Ok, Err};
-ghost use Rattle.gd_ops.specs.Ints as spec;
+ghost use Rattle.std.specs.Prelude.{◌≡◌, ◌^◌, ◌%◌, ◌<◌};
+ghost use Rattle.gd_operators.specs.Plain.{plain};
+ghost use Rattle.value_semantics.specs.Answer.{in_form};
+ghost use Rattle.value_semantics.specs.Ints as spec;
 
-use crate::fresh::{Fresh, boolean, int, refused};
-use gd_containers::ThingFault;
 use gd_model::RunFault;
 use gd_syntax::Operator;
 
-/// An operator between two ints.
-pub fn apply_ints(op: Operator, x: i64, y: i64) -> Result<Fresh, ThingFault>
-    ensures { result ≡ spec.answer (spec.ints_give op x y) }
+/// What the operators on ints give.
+#[derive(Clone, Copy, Debug, PartialEq, Eq)]
+pub enum Plain {
+    Int(i64),
+    Bool(bool),
+}
+
+/// An operator between two ints. It takes no memory. `ZeroDivisorOrStep` for a divisor or a negative power of 0, `BadShift` for a
+/// negative shift, and `BadOperands` where there is no operator between ints.
+pub fn apply_ints(op: Operator, x: i64, y: i64) -> Result<Plain, RunFault>
+    ensures { in_form plain result ≡ spec.ints_give op x y }
 {
     match op {
         Operator::Power => power(x, y),
@@ -34,45 +42,45 @@ pub fn apply_ints(op: Operator, x: i64, y: i64) -> Result<Fresh, ThingFault>
         | Operator::Negate
         | Operator::Plus
         | Operator::Complement
-        | Operator::Not => refused(RunFault::BadOperands),
+        | Operator::Not => Err(RunFault::BadOperands),
     }
 }
 
-/// An operator before one int.
-pub fn apply_int(op: Operator, x: i64) -> Result<Fresh, ThingFault>
-    ensures { result ≡ spec.answer (spec.int_gives op x) }
+/// An operator before one int, likewise.
+pub fn apply_int(op: Operator, x: i64) -> Result<Plain, RunFault>
+    ensures { in_form plain result ≡ spec.int_gives op x }
 {
     match op {
         Operator::Negate => int(x.wrapping_neg()),
         Operator::Plus => int(x),
         Operator::Complement => int(x ^ -1),
-        _ => refused(RunFault::BadOperands),
+        _ => Err(RunFault::BadOperands),
     }
 }
 
-fn divide(x: i64, y: i64) -> Result<Fresh, ThingFault>
-    ensures { result ≡ spec.answer (spec.quotient x y) }
+fn divide(x: i64, y: i64) -> Result<Plain, RunFault>
+    ensures { in_form plain result ≡ spec.quotient x y }
 {
     if y == 0 {
-        return refused(RunFault::ZeroDivisorOrStep);
+        return Err(RunFault::ZeroDivisorOrStep);
     }
     int(x.wrapping_div(y))
 }
 
-fn remainder(x: i64, y: i64) -> Result<Fresh, ThingFault>
-    ensures { result ≡ spec.answer (spec.rest x y) }
+fn remainder(x: i64, y: i64) -> Result<Plain, RunFault>
+    ensures { in_form plain result ≡ spec.rest x y }
 {
     if y == 0 {
-        return refused(RunFault::ZeroDivisorOrStep);
+        return Err(RunFault::ZeroDivisorOrStep);
     }
     int(x.wrapping_rem(y))
 }
 
-fn shift_left(x: i64, y: i64) -> Result<Fresh, ThingFault>
-    ensures { result ≡ spec.answer (spec.shifted_left x y) }
+fn shift_left(x: i64, y: i64) -> Result<Plain, RunFault>
+    ensures { in_form plain result ≡ spec.shifted_left x y }
 {
     if y < 0 {
-        return refused(RunFault::BadShift);
+        return Err(RunFault::BadShift);
     }
     if y >= 64 {
         return int(0);
@@ -80,11 +88,11 @@ fn shift_left(x: i64, y: i64) -> Result<Fresh, ThingFault>
     int(x.wrapping_shl(y as u32))
 }
 
-fn shift_right(x: i64, y: i64) -> Result<Fresh, ThingFault>
-    ensures { result ≡ spec.answer (spec.shifted_right x y) }
+fn shift_right(x: i64, y: i64) -> Result<Plain, RunFault>
+    ensures { in_form plain result ≡ spec.shifted_right x y }
 {
     if y < 0 {
-        return refused(RunFault::BadShift);
+        return Err(RunFault::BadShift);
     }
     if y >= 64 {
         return int(if x < 0 { -1 } else { 0 });
@@ -92,14 +100,14 @@ fn shift_right(x: i64, y: i64) -> Result<Fresh, ThingFault>
     int(x.wrapping_shr(y as u32))
 }
 
-fn power(x: i64, y: i64) -> Result<Fresh, ThingFault>
-    ensures { result ≡ spec.answer (spec.power x y) }
+fn power(x: i64, y: i64) -> Result<Plain, RunFault>
+    ensures { in_form plain result ≡ spec.power x y }
 {
     if y >= 0 {
         return int(raised(x.cast_unsigned(), y.cast_unsigned()).cast_signed());
     }
     match x {
-        0 => refused(RunFault::ZeroDivisorOrStep),
+        0 => Err(RunFault::ZeroDivisorOrStep),
         1 => int(1),
         -1 => int(if y % 2 == 0 { 1 } else { -1 }),
         _ => int(0),
@@ -116,4 +124,16 @@ fn raised(base: u64, exponent: u64) -> u64
     base.wrapping_pow(0x8000_0000)
         .wrapping_pow(high)
         .wrapping_mul(base.wrapping_pow(low))
+}
+
+fn int(n: i64) -> Result<Plain, RunFault>
+    ensures { result ≡ Ok (Plain.Int n) }
+{
+    Ok(Plain::Int(n))
+}
+
+fn boolean(b: bool) -> Result<Plain, RunFault>
+    ensures { result ≡ Ok (Plain.Bool b) }
+{
+    Ok(Plain::Bool(b))
 }

@@ -3,8 +3,17 @@
 
 mod equality;
 mod ints;
+mod joining;
+mod laws;
+mod membership;
 mod operators;
 mod texts;
+mod truthiness;
 
 pub use equality::{is_same, same};
-pub use operators::{apply, first_place, push, truth};
+pub use ints::{Plain, apply_ints};
+pub use joining::push;
+pub use laws::untaken;
+pub use membership::first_place;
+pub use operators::apply;
+pub use truthiness::truth;

@@ -1,5 +1,5 @@
 -- How forms are put behind one another.
-use Rattle.std.proofs.Common.{◌≡◌, ℕ, ◌+◌, ◌<◌, suc, List, [], ◌∷◌, ◌++◌, length, map, drop, get_or, slice_get, codes, Option, None, Some, Result, Ok, Err, refl, ap, sym, subst, ◌∙◌, add-one, append_assoc, append-nil, length-append, arith}
+use Rattle.std.proofs.Common.{◌≡◌, ℕ, ◌+◌, ◌<◌, suc, List, [], ◌∷◌, ◌++◌, length, map, drop, get_or, slice_get, codes, None, Some, Result, Ok, Err, refl, ap, sym, subst, ◌∙◌, add-one, append_assoc, append-nil, length-append, arith}
 use Rattle.std.proofs.Math.Seq.{drop-cons}
 use Rattle.std.proofs.lemmas.Option.{get_or_from_slice_get, slice_get_within}
 use Rattle.gd_model.specs.Datum.{Datum}

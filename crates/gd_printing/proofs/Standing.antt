@@ -1,6 +1,6 @@
 -- Arguments that stand in for printed forms past the limit decide as those would: a pattern takes the ones where it
 -- takes the others, and the text is too long.
-use Rattle.std.proofs.Common.{◌≡◌, ℕ, suc, ◌-◌, ◌<◌, ◌≤◌, Bool, true, false, ◌||◌, ◌&&◌, ◌==◌, nat_le, List, [], ◌∷◌, ◌++◌, length, Option, None, Some, option_and_then, Result, Ok, Err, refl, ap, sym, subst, ◌∙◌, if◌then◌else◌, replicate, length-append, arith}
+use Rattle.std.proofs.Common.{◌≡◌, ℕ, suc, ◌-◌, ◌<◌, ◌≤◌, Bool, true, false, ◌||◌, ◌&&◌, ◌==◌, nat_le, List, [], ◌∷◌, ◌++◌, length, Option, None, Some, Result, Ok, Err, refl, ap, sym, subst, ◌∙◌, if◌then◌else◌, replicate, length-append, arith}
 use Rattle.std.proofs.lemmas.Bool.{ne_eqb}
 use Rattle.gd_model.specs.declared.fault.RunFault.{RunFault}
 use Rattle.gd_model.specs.declared.fault.RunFault.TheVariants.{BadFormat, TooLong}
@@ -14,15 +14,16 @@ use Rattle.gd_text.specs.declared.pattern.Letter.TheVariants.{Any, Character, De
 use Rattle.gd_text.specs.declared.pattern.Conversion.{Conversion}
 use Rattle.gd_text.specs.declared.pattern.Piece.{Piece}
 use Rattle.gd_text.specs.declared.pattern.Piece.TheVariants.{Plain, Shown}
-use Rattle.gd_text.specs.Format.{takes, all_fit, text_of, shown}
-use Rattle.gd_text.specs.Formatted.{pieces_of}
+use Rattle.gd_text.specs.Format.{IsFormatted, takes, all_fit, text_of, shown}
+use Rattle.gd_text.specs.Formatted.{formatted}
+use Rattle.gd_text.proofs.Formatted.{formatted_sound, formatted_found}
 use Rattle.gd_answers.specs.declared.fresh.Fresh.{Fresh}
 use Rattle.gd_answers.specs.Answers.{Gives}
 use Rattle.value_semantics.specs.Answer.{in_form}
 use Rattle.value_semantics.specs.Formatting.{format_made, format_gives}
-use Rattle.value_semantics.specs.Made.{Made, value, text_made, limited}
+use Rattle.value_semantics.specs.Made.{Made, value, text_made}
 use Rattle.value_semantics.proofs.Made.{limited_past}
-use Rattle.gd_printing.specs.Arguments.{IsOverLong, IsOther, Stands, AllStand, unless_over}
+use Rattle.gd_printing.specs.Arguments.{Stands, AllStand, unless_over}
 
 or_moved : (a b c : Bool) → ((a || b) || c) ≡ (a || (b || c))
 or_moved true b c = refl
@@ -149,18 +150,27 @@ text_over t u (Ok x) long g = too_long t long
 text_over t u (Err (Run f)) long g = too_long t long ∙ only_too_long (nat_le (length u) 16777216) u f g
 text_over t u (Err NoMemory) long g = tt
 
-fit_over : (fits : Bool) (t u : List ℕ) (r : Result Fresh ThingFault) → (fits ≡ true → 16777216 < length t) → Gives (format_made (if fits then Some u else None)) r → Gives (format_made (if fits then Some t else None)) (unless_over true r)
-fit_over true t u r long g = text_over t u r (long refl) g
-fit_over false t u r long g = refused_over BadFormat r g
+format_over : (o p : Option (List ℕ)) (r : Result Fresh ThingFault) → ((t : List ℕ) → o ≡ Some t → (16777216 < length t) × (u : List ℕ) × (p ≡ Some u)) → ((u : List ℕ) → p ≡ Some u → (t : List ℕ) × (o ≡ Some t)) → Gives (format_made p) r → Gives (format_made o) (unless_over true r)
+format_over None None r a b g = refused_over BadFormat r g
+format_over None (Some u) r a b g = let there = (b u refl).1 in cc
+format_over (Some t) None r a b g = let there = (a t refl).2 in cc
+format_over (Some t) (Some u) r a b g = text_over t u r (a t refl).0 g
 
-pieces_over : (o : Option (List Piece)) (ws ys : List Arg) (r : Result Fresh ThingFault) → AllStand ws ys true → Gives (format_made (option_and_then (λ ps. if all_fit ps ys then Some (text_of ps ys) else None) o)) r → Gives (format_made (option_and_then (λ ps. if all_fit ps ws then Some (text_of ps ws) else None) o)) (unless_over true r)
-pieces_over None ws ys r h g = refused_over BadFormat r g
-pieces_over (Some ps) ws ys r h g =
-    let same : all_fit ps ws ≡ all_fit ps ys = fit_same ps ws ys true h in
-    subst (λ b. Gives (format_made (if b then Some (text_of ps ws) else None)) (unless_over true r)) (sym same)
-    (fit_over (all_fit ps ys) (text_of ps ws) (text_of ps ys) r (λ e. long_text ps ws ys true h refl (same ∙ e)) g)
+-- a pattern gives a text with the one arguments where it gives one with the others
+hand_text : (pattern : List ℕ) (ws ys : List Arg) (t : List ℕ) → AllStand ws ys true → IsFormatted pattern ws t → (16777216 < length t) × (u : List ℕ) × IsFormatted pattern ys u
+hand_text pattern ws ys t h f =
+    let long : 16777216 < length t = subst (λ (u : List ℕ). 16777216 < length u) (sym f.text) (long_text f.pieces ws ys true h refl f.fit) in
+    (long, text_of f.pieces ys, record { pieces = f.pieces; are_pieces = f.are_pieces; fit = sym (fit_same f.pieces ws ys true h) ∙ f.fit; text = refl })
+
+want_text : (pattern : List ℕ) (ws ys : List Arg) (u : List ℕ) → AllStand ws ys true → IsFormatted pattern ys u → (t : List ℕ) × IsFormatted pattern ws t
+want_text pattern ws ys u h f =
+    (text_of f.pieces ws, record { pieces = f.pieces; are_pieces = f.are_pieces; fit = fit_same f.pieces ws ys true h ∙ f.fit; text = refl })
 
 -- what the pattern gives with the arguments that it is to have, by those at hand
 pub standing_gives : (pattern : List ℕ) (ws ys : List Arg) (over : Bool) (r : Result Fresh ThingFault) → AllStand ws ys over → Gives (format_gives pattern ys) r → Gives (format_gives pattern ws) (unless_over over r)
 standing_gives pattern ws ys false r h g = subst (λ (args : List Arg). Gives (format_gives pattern args) r) (sym (none_over ws ys h)) g
-standing_gives pattern ws ys true r h g = pieces_over (pieces_of (length pattern) pattern) ws ys r h g
+standing_gives pattern ws ys true r h g =
+    format_over (formatted pattern ws) (formatted pattern ys) r
+    (λ t e. let f = hand_text pattern ws ys t h (formatted_sound pattern ws t e) in (f.0, f.1, formatted_found pattern ys f.1 f.2))
+    (λ u e. let f = want_text pattern ws ys u h (formatted_sound pattern ys u e) in (f.0, formatted_found pattern ws f.0 f.1))
+    g

@@ -101,7 +101,7 @@ impl Arguments {
     /// Puts the argument that the value is at the end; only memory may lack.
     fn put<K: Look>(&mut self, alloc: Global, v: &Value, look: &K) -> Result<(), ThingFault>
         requires whole { Whole (K.things look.now) (K.names look.now) v.now }
-    ensures ok { IfOk result (λ _. (wants : List Arg) → AllStand wants self.old.list.items self.old.too_long → AllStand (wants ++ spec.argument (K.store look.now) (K.names look.now) (datum v.now) ∷ []) self.new.list.items self.new.too_long) }
+        ensures ok { IfOk result (λ _. (wants : List Arg) → AllStand wants self.old.list.items self.old.too_long → AllStand (wants ++ spec.argument (K.store look.now) (K.names look.now) (datum v.now) ∷ []) self.new.list.items self.new.too_long) }
         ensures err { IfErr result (λ fault. fault ≡ ThingFault.NoMemory) }
     {
         match argument(alloc, v, look)? {

@@ -1,7 +1,7 @@
 use Rattle.std.proofs.Common.{◌≡◌, ℕ, zero, suc, ◌+◌, ◌*◌, ◌/◌, ◌%◌, ◌^◌, refl, sym, ap, ◌∙◌, arith}
 use Rattle.std.proofs.Math.Nat.{pow-zero, pow-suc, mul-suc, div-add-mod}
 use Rattle.std.proofs.lemmas.Nat.{pow-add, pow-mod, mul-mod}
-use Rattle.gd_ops.proofs.ints.raised.Goals as goal
+use Rattle.gd_operators.proofs.ints.raised.Goals as goal
 
 pow-pow : (n i j : ℕ) → (n ^ i) ^ j ≡ n ^ (i * j)
 pow-pow n i zero =

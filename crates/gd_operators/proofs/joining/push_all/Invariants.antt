@@ -1,5 +1,5 @@
 use Rattle.std.proofs.Common.{◌≡◌, ◌++◌, take}
-use Rattle.gd_ops.proofs.operators.push_all.Given as goal
+use Rattle.gd_operators.proofs.joining.push_all.Given as goal
 
 -- the array has got the elements so far
 abbrev pub invariant-loop-item : goal.invariant-loop-item

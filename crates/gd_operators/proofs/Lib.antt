@@ -1,0 +1,4 @@
+mod Equal
+mod Joins
+mod Refused
+mod Sought
