@@ -1,4 +1,5 @@
-mod Arguments
-mod Items
-mod Keys
-mod Pairs
+pub mod Arguments
+pub mod Items
+pub mod Keys
+pub mod Pairs
+pub mod Ranges

@@ -1,26 +1,29 @@
 //! The functions of ints and of single values (docs/runtime.md, "Builtins").
-ghost use Rattle.std.specs.Prelude.{◌≡◌};
+ghost use Rattle.std.specs.Prelude.{◌≡◌, ◌∷◌, [], map};
 ghost use Rattle.std.specs.Int.{int_min, int_max};
-ghost use Rattle.gd_ops.specs.Answer.{and_then, exact, in_form};
-ghost use Rattle.gd_ops.specs.Functions as spec;
+ghost use Rattle.gd_model.specs.Meant.{datum};
+ghost use Rattle.gd_model.specs.Whole.{Whole, AllWhole};
+ghost use Rattle.gd_answers.specs.Answers.{exact, meant};
+ghost use Rattle.value_semantics.specs.Answer.{and_then, in_form};
+ghost use Rattle.value_semantics.specs.Functions as spec;
+ghost use Rattle.value_semantics.specs.Made.{int_made};
 
-use crate::builtin::Builtin;
-use crate::equality::is_same;
-use crate::fresh::{Fresh, boolean, int, refused};
-use crate::there::there;
-use gd_containers::{Look, ThingFault};
+use gd_answers::{Fresh, boolean, int, refused};
+use gd_containers::{Look, ThingFault, array_of, dict_of};
 use gd_model::{RunFault, Value};
+use gd_operators::is_same;
 use gd_text::to_int;
+use value_semantics::Builtin;
 
 /// A function of ints. `WrongNumberOfArguments`, then `ValueOfAnotherType`, then `ZeroDivisorOrStep`.
 pub fn call_on_ints(builtin: Builtin, args: &[Value]) -> Result<Fresh, ThingFault>
-    ensures { result ≡ exact (in_form spec.int_made (spec.ints_call builtin args.now)) }
+    ensures { meant result ≡ exact (in_form int_made (spec.ints_call builtin (map datum args.now))) }
 {
     int(int_of_ints(builtin, args)?)
 }
 
 fn int_of_ints(builtin: Builtin, args: &[Value]) -> Result<i64, ThingFault>
-    ensures { result ≡ exact (spec.ints_call builtin args.now) }
+    ensures { result ≡ exact (spec.ints_call builtin (map datum args.now)) }
 {
     match builtin {
         Builtin::Abs | Builtin::Absi | Builtin::Sign | Builtin::Signi => {
@@ -35,7 +38,7 @@ fn int_of_ints(builtin: Builtin, args: &[Value]) -> Result<i64, ThingFault>
 }
 
 fn call_on_one(builtin: Builtin, args: &[Value]) -> Result<i64, ThingFault>
-    ensures { result ≡ exact (in_form (spec.of_int builtin) (spec.one_int args.now)) }
+    ensures { result ≡ exact (in_form (spec.of_int builtin) (spec.one_int (map datum args.now))) }
 {
     Ok(of_int(builtin, one_int(args)?))
 }
@@ -50,7 +53,7 @@ fn of_int(builtin: Builtin, n: i64) -> i64
 }
 
 fn call_on_two(builtin: Builtin, args: &[Value]) -> Result<i64, ThingFault>
-    ensures { result ≡ exact (and_then (spec.two_ints args.now) (spec.of_pair builtin)) }
+    ensures { result ≡ exact (and_then (spec.two_ints (map datum args.now)) (spec.of_pair builtin)) }
 {
     let (x, y) = two_ints(args)?;
     of_pair(builtin, x, y)
@@ -67,14 +70,14 @@ fn of_pair(builtin: Builtin, x: i64, y: i64) -> Result<i64, ThingFault>
 }
 
 fn clamp(args: &[Value]) -> Result<i64, ThingFault>
-    ensures { result ≡ exact (in_form spec.clamped (spec.three_ints args.now)) }
+    ensures { result ≡ exact (in_form spec.clamped (spec.three_ints (map datum args.now))) }
 {
     Ok(clamped(three_ints(args)?))
 }
 
 /// The one argument, an int.
 pub fn one_int(args: &[Value]) -> Result<i64, ThingFault>
-    ensures { result ≡ exact (spec.one_int args.now) }
+    ensures { result ≡ exact (spec.one_int (map datum args.now)) }
 {
     match args {
         [Value::Int(n)] => Ok(*n),
@@ -84,22 +87,38 @@ pub fn one_int(args: &[Value]) -> Result<i64, ThingFault>
 }
 
 fn two_ints(args: &[Value]) -> Result<(i64, i64), ThingFault>
-    ensures { result ≡ exact (spec.two_ints args.now) }
+    ensures { result ≡ exact (spec.two_ints (map datum args.now)) }
 {
     match args {
-        [Value::Int(x), Value::Int(y)] => Ok((*x, *y)),
-        [_, _] => refused(RunFault::ValueOfAnotherType),
+        [x, y] => pair_of(x, y),
         _ => refused(RunFault::WrongNumberOfArguments),
     }
 }
 
+fn pair_of(x: &Value, y: &Value) -> Result<(i64, i64), ThingFault>
+    ensures { result ≡ exact (spec.two_ints (datum x.now ∷ datum y.now ∷ [])) }
+{
+    match (x, y) {
+        (Value::Int(x), Value::Int(y)) => Ok((*x, *y)),
+        _ => refused(RunFault::ValueOfAnotherType),
+    }
+}
+
 fn three_ints(args: &[Value]) -> Result<(i64, i64, i64), ThingFault>
-    ensures { result ≡ exact (spec.three_ints args.now) }
+    ensures { result ≡ exact (spec.three_ints (map datum args.now)) }
 {
     match args {
-        [Value::Int(x), Value::Int(y), Value::Int(z)] => Ok((*x, *y, *z)),
-        [_, _, _] => refused(RunFault::ValueOfAnotherType),
+        [x, y, z] => triple_of(x, y, z),
         _ => refused(RunFault::WrongNumberOfArguments),
+    }
+}
+
+fn triple_of(x: &Value, y: &Value, z: &Value) -> Result<(i64, i64, i64), ThingFault>
+    ensures { result ≡ exact (spec.three_ints (datum x.now ∷ datum y.now ∷ datum z.now ∷ [])) }
+{
+    match (x, y, z) {
+        (Value::Int(x), Value::Int(y), Value::Int(z)) => Ok((*x, *y, *z)),
+        _ => refused(RunFault::ValueOfAnotherType),
     }
 }
 
@@ -117,7 +136,7 @@ fn larger(x: i64, y: i64) -> i64
 
 /// The least of two or more ints.
 fn least(args: &[Value]) -> Result<i64, ThingFault>
-    ensures { result ≡ exact (spec.many_picked int_min args.now) }
+    ensures { result ≡ exact (spec.many_picked int_min (map datum args.now)) }
 {
     match args {
         [] | [_] => refused(RunFault::WrongNumberOfArguments),
@@ -126,7 +145,7 @@ fn least(args: &[Value]) -> Result<i64, ThingFault>
 }
 
 fn least_of(first: &Value, rest: &[Value]) -> Result<i64, ThingFault>
-    ensures { result ≡ exact (spec.picked_from int_min first.now rest.now) }
+    ensures { result ≡ exact (spec.picked_from int_min (datum first.now) (map datum rest.now)) }
 {
     match first {
         Value::Int(n) => least_from(*n, rest),
@@ -135,7 +154,7 @@ fn least_of(first: &Value, rest: &[Value]) -> Result<i64, ThingFault>
 }
 
 fn least_from(first: i64, rest: &[Value]) -> Result<i64, ThingFault>
-    ensures { result ≡ exact (spec.picked int_min first rest.now) }
+    ensures { result ≡ exact (spec.picked int_min first (map datum rest.now)) }
 {
     let mut best = first;
     for arg in rest {
@@ -149,7 +168,7 @@ fn least_from(first: i64, rest: &[Value]) -> Result<i64, ThingFault>
 
 /// The greatest of two or more ints.
 fn greatest(args: &[Value]) -> Result<i64, ThingFault>
-    ensures { result ≡ exact (spec.many_picked int_max args.now) }
+    ensures { result ≡ exact (spec.many_picked int_max (map datum args.now)) }
 {
     match args {
         [] | [_] => refused(RunFault::WrongNumberOfArguments),
@@ -158,7 +177,7 @@ fn greatest(args: &[Value]) -> Result<i64, ThingFault>
 }
 
 fn greatest_of(first: &Value, rest: &[Value]) -> Result<i64, ThingFault>
-    ensures { result ≡ exact (spec.picked_from int_max first.now rest.now) }
+    ensures { result ≡ exact (spec.picked_from int_max (datum first.now) (map datum rest.now)) }
 {
     match first {
         Value::Int(n) => greatest_from(*n, rest),
@@ -167,7 +186,7 @@ fn greatest_of(first: &Value, rest: &[Value]) -> Result<i64, ThingFault>
 }
 
 fn greatest_from(first: i64, rest: &[Value]) -> Result<i64, ThingFault>
-    ensures { result ≡ exact (spec.picked int_max first rest.now) }
+    ensures { result ≡ exact (spec.picked int_max first (map datum rest.now)) }
 {
     let mut best = first;
     for arg in rest {
@@ -214,7 +233,8 @@ pub fn call_on_values<K: Look>(
     args: &[Value],
     look: &K,
 ) -> Result<Fresh, ThingFault>
-    ensures { result ≡ exact (spec.values_call (K.things look.now) builtin args.now) }
+    requires whole { AllWhole (K.things look.now) (K.names look.now) args.now }
+    ensures { meant result ≡ exact (spec.values_call (K.store look.now) builtin (map datum args.now)) }
 {
     match (builtin, args) {
         (Builtin::Len, [v]) => int(length_of(v, look)?),
@@ -227,19 +247,20 @@ pub fn call_on_values<K: Look>(
 }
 
 fn length_of<K: Look>(v: &Value, look: &K) -> Result<i64, ThingFault>
-    ensures { result ≡ exact (spec.length_of (K.things look.now) v.now) }
+    requires whole { Whole (K.things look.now) (K.names look.now) v.now }
+    ensures { result ≡ exact (spec.length_of (K.store look.now) (datum v.now)) }
 {
     match v {
         Value::Str(text) => Ok(i64::from(text.length())),
-        Value::Array(h) => Ok(i64::from(there(look.array(*h))?.size())),
-        Value::Dict(h) => Ok(i64::from(there(look.dict(*h))?.size())),
+        Value::Array(h) => Ok(i64::from(array_of(look, *h).size())),
+        Value::Dict(h) => Ok(i64::from(dict_of(look, *h).size())),
         _ => refused(RunFault::ValueOfAnotherType),
     }
 }
 
 /// The number of the kind of a value.
 fn type_number(v: &Value) -> i64
-    ensures { result ≡ spec.type_number v.now }
+    ensures { result ≡ spec.type_number (datum v.now) }
 {
     match v {
         Value::Nil => 0,
@@ -248,14 +269,14 @@ fn type_number(v: &Value) -> i64
         Value::Str(_) => 4,
         Value::Object(_) => 24,
         Value::Callable(_) => 25,
-        Value::Signal(_, _) => 26,
+        Value::Signal(_) => 26,
         Value::Dict(_) => 27,
         Value::Array(_) => 28,
     }
 }
 
 fn as_int(v: &Value) -> Result<i64, ThingFault>
-    ensures { result ≡ exact (spec.as_int v.now) }
+    ensures { result ≡ exact (spec.as_int (datum v.now)) }
 {
     match v {
         Value::Bool(b) => Ok(i64::from(*b)),
@@ -266,7 +287,7 @@ fn as_int(v: &Value) -> Result<i64, ThingFault>
 }
 
 fn as_bool(v: &Value) -> Result<bool, ThingFault>
-    ensures { result ≡ exact (spec.as_bool v.now) }
+    ensures { result ≡ exact (spec.as_bool (datum v.now)) }
 {
     match v {
         Value::Bool(b) => Ok(*b),

@@ -1,27 +1,26 @@
 //! The methods of Strings (docs/runtime.md, "Texts").
-ghost use Rattle.std.specs.Prelude.{◌≡◌, ◌≤◌, [], true, length, map, negsuc};
-ghost use Rattle.gd_ops.specs.Answer.{Answers, and_then, exact, in_form};
-ghost use Rattle.gd_ops.specs.Functions.{one_int};
-ghost use Rattle.gd_ops.specs.Methods as spec;
-ghost use Rattle.gd_ops.specs.Methods.{TextCallGives, JoinGives};
-ghost use Rattle.gd_ops.specs.Texts.{text_meant};
-ghost use Rattle.gd_ops.specs.Values.{bool_made};
+ghost use Rattle.std.specs.Prelude.{◌≡◌, ◌≤◌, ◌∷◌, [], Ok, true, length, map, negsuc};
+ghost use Rattle.gd_answers.specs.Answers.{Gives, exact, meant};
+ghost use Rattle.gd_model.specs.Meant.{datum};
+ghost use Rattle.gd_model.specs.Whole.{AllWhole, Whole};
 ghost use Rattle.gd_text.specs.Search as search;
 ghost use Rattle.gd_text.specs.Text.{substr};
+ghost use Rattle.value_semantics.specs.Answer.{and_then, in_form};
+ghost use Rattle.value_semantics.specs.Functions.{one_int};
+ghost use Rattle.value_semantics.specs.Made.{array, array_made, bool_made, place_made, text_in_range, text_made};
+ghost use Rattle.value_semantics.specs.Methods as spec;
 
-use crate::builtin::Builtin;
-use crate::fresh::{Fresh, boolean, int, refused};
 use crate::functions::one_int;
 use crate::misfit::misfit;
-use crate::operators::push;
-use crate::print::joined;
-use crate::texts::{text, text_refusal};
-use crate::there::there;
-use gd_containers::{Look, MAX_ITEMS, ThingFault, TypedArray};
+use gd_answers::{Fresh, boolean, int, refused, text, text_refusal};
+use gd_containers::{Look, MAX_ITEMS, ThingFault, TypedArray, array_of};
 use gd_model::{RunFault, Ty, Value};
+use gd_operators::push;
+use gd_printing::joined;
 use gd_syntax::Text;
 use gd_text::{find, is_valid_int, left, repeat, replace, right, split, strip, substr, to_int};
 use std::alloc::Global;
+use value_semantics::Builtin;
 
 /// A method of the String `a`. `WrongNumberOfArguments`, then `ValueOfAnotherType`, then `OutOfRange`, then `TooLong`;
 /// `NoSuchMethod` where it is no method of Strings.
@@ -32,7 +31,8 @@ pub fn call_on_text<K: Look>(
     args: &[Value],
     look: &K,
 ) -> Result<Fresh, ThingFault>
-    ensures { TextCallGives (K.things look.now) (K.names look.now) method a.now args.now result }
+    requires whole { AllWhole (K.things look.now) (K.names look.now) args.now }
+    ensures { Gives (spec.text_call (K.store look.now) (K.names look.now) method a.now (map datum args.now)) result }
 {
     match method {
         Builtin::StringJoin => join(alloc, a, args, look),
@@ -41,11 +41,23 @@ pub fn call_on_text<K: Look>(
 }
 
 fn join<K: Look>(alloc: Global, a: &Text, args: &[Value], look: &K) -> Result<Fresh, ThingFault>
-    ensures { JoinGives (K.things look.now) (K.names look.now) a.now args.now result }
+    requires whole { AllWhole (K.things look.now) (K.names look.now) args.now }
+    ensures { Gives (spec.join_gives (K.store look.now) (K.names look.now) a.now (map datum args.now)) result }
 {
     match args {
-        [Value::Array(h)] => joined(alloc, there(look.array(*h))?.items(), a.chars(), look),
+        [list] => join_list(alloc, a, list, look),
         _ => misfit(args, 1, 1),
+    }
+}
+
+/// The printed elements of the array with the text between them.
+fn join_list<K: Look>(alloc: Global, a: &Text, list: &Value, look: &K) -> Result<Fresh, ThingFault>
+    requires whole { Whole (K.things look.now) (K.names look.now) list.now }
+    ensures { Gives (spec.join_gives (K.store look.now) (K.names look.now) a.now (datum list.now ∷ [])) result }
+{
+    match list {
+        Value::Array(h) => joined(alloc, array_of(look, *h).items(), a.chars(), look),
+        _ => refused(RunFault::ValueOfAnotherType),
     }
 }
 
@@ -55,7 +67,7 @@ fn call_without_things(
     a: &Text,
     args: &[Value],
 ) -> Result<Fresh, ThingFault>
-    ensures { Answers (spec.texts_call method a.now args.now) result }
+    ensures { Gives (spec.texts_call method a.now (map datum args.now)) result }
 {
     match method {
         Builtin::StringLength
@@ -79,7 +91,7 @@ fn call_without_things(
 }
 
 fn call_alone(alloc: Global, method: Builtin, a: &Text, args: &[Value]) -> Result<Fresh, ThingFault>
-    ensures { Answers (spec.alone (spec.text_alone method a.now) args.now) result }
+    ensures { Gives (spec.alone (spec.text_alone method a.now) (map datum args.now)) result }
 {
     match args {
         [] => alone(alloc, method, a),
@@ -88,7 +100,7 @@ fn call_alone(alloc: Global, method: Builtin, a: &Text, args: &[Value]) -> Resul
 }
 
 fn alone(alloc: Global, method: Builtin, a: &Text) -> Result<Fresh, ThingFault>
-    ensures { Answers (spec.text_alone method a.now) result }
+    ensures { Gives (spec.text_alone method a.now) result }
 {
     match method {
         Builtin::StringLength => int(i64::from(a.length())),
@@ -106,14 +118,14 @@ fn call_with_int(
     a: &Text,
     args: &[Value],
 ) -> Result<Fresh, ThingFault>
-    ensures { Answers (and_then (one_int args.now) (spec.text_with_int method a.now)) result }
+    ensures { Gives (and_then (one_int (map datum args.now)) (spec.text_with_int method a.now)) result }
 {
     let n = one_int(args)?;
     with_int(alloc, method, a, n)
 }
 
 fn with_int(alloc: Global, method: Builtin, a: &Text, n: i64) -> Result<Fresh, ThingFault>
-    ensures { Answers (spec.text_with_int method a.now n) result }
+    ensures { Gives (spec.text_with_int method a.now n) result }
 {
     match method {
         Builtin::StringLeft => text(left(alloc, a, n)),
@@ -126,7 +138,7 @@ fn with_int(alloc: Global, method: Builtin, a: &Text, n: i64) -> Result<Fresh, T
 
 /// The code point at a place. `OutOfRange` where there is none; a negative place is none.
 fn unicode_at(a: &Text, i: i64) -> Result<Fresh, ThingFault>
-    ensures { result ≡ exact (spec.unicode_at a.now i) }
+    ensures { meant result ≡ exact (spec.unicode_at a.now i) }
 {
     if i < 0 || i >= i64::from(a.length()) {
         return refused(RunFault::OutOfRange);
@@ -138,7 +150,7 @@ fn unicode_at(a: &Text, i: i64) -> Result<Fresh, ThingFault>
 }
 
 fn call_test(method: Builtin, a: &Text, args: &[Value]) -> Result<Fresh, ThingFault>
-    ensures { result ≡ exact (in_form (λ w. bool_made (spec.text_test method a.now w)) (spec.one_text args.now)) }
+    ensures { meant result ≡ exact (in_form (λ w. bool_made (spec.text_test method a.now w)) (spec.one_text (map datum args.now))) }
 {
     match args {
         [Value::Str(w)] => boolean(test(method, a, w)),
@@ -157,7 +169,7 @@ fn test(method: Builtin, a: &Text, w: &Text) -> bool
 }
 
 fn call_substr(alloc: Global, a: &Text, args: &[Value]) -> Result<Fresh, ThingFault>
-    ensures { Answers (and_then (spec.int_and_maybe (negsuc 0) args.now) (λ p. text_meant (substr a.now p.0 p.1))) result }
+    ensures { Gives (and_then (spec.int_and_maybe (negsuc 0) (map datum args.now)) (λ p. text_in_range (substr a.now p.0 p.1))) result }
 {
     match args {
         [Value::Int(from)] => part(alloc, a, *from, -1),
@@ -167,13 +179,13 @@ fn call_substr(alloc: Global, a: &Text, args: &[Value]) -> Result<Fresh, ThingFa
 }
 
 fn part(alloc: Global, a: &Text, from: i64, len: i64) -> Result<Fresh, ThingFault>
-    ensures { Answers (text_meant (substr a.now from len)) result }
+    ensures { Gives (text_in_range (substr a.now from len)) result }
 {
     text(substr(alloc, a, from, len))
 }
 
 fn call_find(a: &Text, args: &[Value]) -> Result<Fresh, ThingFault>
-    ensures { result ≡ exact (in_form (λ p. spec.place_made (search.find a.now p.0 p.1)) (spec.text_and_maybe args.now)) }
+    ensures { meant result ≡ exact (in_form (λ p. place_made (search.find a.now p.0 p.1)) (spec.text_and_maybe (map datum args.now))) }
 {
     match args {
         [Value::Str(what)] => found(find(a, what, 0)),
@@ -184,7 +196,7 @@ fn call_find(a: &Text, args: &[Value]) -> Result<Fresh, ThingFault>
 
 /// The place as an int, -1 standing for none.
 pub fn found(at: Option<u32>) -> Result<Fresh, ThingFault>
-    ensures { result ≡ Ok (spec.place_made at) }
+    ensures { meant result ≡ Ok (place_made at) }
 {
     match at {
         Some(i) => int(i64::from(i)),
@@ -193,7 +205,7 @@ pub fn found(at: Option<u32>) -> Result<Fresh, ThingFault>
 }
 
 fn call_replace(alloc: Global, a: &Text, args: &[Value]) -> Result<Fresh, ThingFault>
-    ensures { Answers (and_then (spec.two_texts args.now) (λ p. text_meant (Some (search.replaced a.now p.0 p.1)))) result }
+    ensures { Gives (and_then (spec.two_texts (map datum args.now)) (λ p. text_made (search.replaced a.now p.0 p.1))) result }
 {
     match args {
         [Value::Str(what), Value::Str(with)] => replaced(alloc, a, what, with),
@@ -202,13 +214,13 @@ fn call_replace(alloc: Global, a: &Text, args: &[Value]) -> Result<Fresh, ThingF
 }
 
 fn replaced(alloc: Global, a: &Text, what: &Text, with: &Text) -> Result<Fresh, ThingFault>
-    ensures { Answers (text_meant (Some (search.replaced a.now what.now with.now))) result }
+    ensures { Gives (text_made (search.replaced a.now what.now with.now)) result }
 {
     text(replace(alloc, a, what, with))
 }
 
 fn call_split(alloc: Global, a: &Text, args: &[Value]) -> Result<Fresh, ThingFault>
-    ensures { Answers (and_then (spec.split_args args.now) (λ p. spec.array_meant (spec.parts_array a.now p.0 p.1))) result }
+    ensures { Gives (and_then (spec.split_args (map datum args.now)) (λ p. array_made (spec.parts_array a.now p.0 p.1))) result }
 {
     match args {
         [] => characters(alloc, a),
@@ -220,7 +232,7 @@ fn call_split(alloc: Global, a: &Text, args: &[Value]) -> Result<Fresh, ThingFau
 
 /// The characters of the text as an array of Strings.
 fn characters(alloc: Global, a: &Text) -> Result<Fresh, ThingFault>
-    ensures { Answers (spec.array_meant (spec.parts_array a.now [] true)) result }
+    ensures { Gives (array_made (spec.parts_array a.now [] true)) result }
 {
     match Text::of(Vec::new(alloc)) {
         Ok(nothing) => parts(alloc, a, &nothing, true),
@@ -230,7 +242,7 @@ fn characters(alloc: Global, a: &Text) -> Result<Fresh, ThingFault>
 
 /// The parts of the text as an array of Strings. `TooLong` exactly where they are too many.
 fn parts(alloc: Global, a: &Text, by: &Text, empty: bool) -> Result<Fresh, ThingFault>
-    ensures { Answers (spec.array_meant (spec.parts_array a.now by.now empty)) result }
+    ensures { Gives (array_made (spec.parts_array a.now by.now empty)) result }
 {
     match split(alloc, a, by, empty) {
         Ok(texts) => strings(alloc, texts),
@@ -240,7 +252,7 @@ fn parts(alloc: Global, a: &Text, by: &Text, empty: bool) -> Result<Fresh, Thing
 
 fn strings(alloc: Global, texts: Vec<Text>) -> Result<Fresh, ThingFault>
     requires { length texts.items ≤ MAX_ITEMS }
-    ensures { Answers (Some (Ok (Fresh.Array (spec.array_of_texts texts.items)))) result }
+    ensures { Gives (Ok (array (spec.array_of_texts texts.items))) result }
 {
     let mut all = TypedArray::new(alloc, Ty::Str, false);
     for text in texts {

@@ -1,6 +1,7 @@
 pub mod Answer
 pub mod BuiltinRows
 pub mod Builtins
+pub mod Constants
 pub mod Equality
 pub mod Formatting
 pub mod Functions

@@ -12,17 +12,20 @@ use Rattle.value_semantics.specs.declared.builtin_rows.Param.TheVariants as p
 use Rattle.value_semantics.specs.BuiltinRows.{Row}
 use Rattle.value_semantics.specs.Kinds.{kind_of}
 
--- whether a parameter takes the values of a kind; a value that is no key or no element is refused in its own way
+-- whether a parameter takes the values of a kind; a value that is no key or does not fit the type of what lies
+-- in the receiver is refused in its own way
 abbrev pub takes : Param → Kind → Bool
 takes p.Any a = true
 takes p.Element a = true
 takes p.Key a = true
+takes p.Value a = true
 takes p.Bool k.Bool = true
 takes p.Int k.Int = true
 takes p.Str k.Str = true
 takes p.Array k.Array = true
 takes p.Dict k.Dict = true
 takes p.Callable k.Callable = true
+takes p.Callable k.Nil = true
 takes p.Sized k.Str = true
 takes p.Sized k.Array = true
 takes p.Sized k.Dict = true

@@ -1,10 +1,10 @@
 //! The rows of the builtins: the name, the receiver, the parameters and the result of each (docs/runtime.md, "Builtins").
 ghost use Rattle.std.specs.Prelude.{◌≡◌, map, option_map, slice_get};
-ghost use Rattle.std.specs.Str.{bytes_eq};
 ghost use Rattle.value_semantics.specs.BuiltinRows as spec;
 
 use crate::builtin::Builtin;
 use crate::kind::Kind;
+use crate::written::is_written;
 use gd_syntax::Text;
 
 /// What a parameter of a builtin takes.
@@ -16,11 +16,14 @@ pub enum Param {
     Element,
     /// a key of the receiver
     Key,
+    /// a value that fits the value type of the receiver
+    Value,
     Bool,
     Int,
     Str,
     Array,
     Dict,
+    /// a Callable or null
     Callable,
     /// a String, an Array or a Dictionary
     Sized,
@@ -177,7 +180,7 @@ static BUILTINS: Builtins<82> = Builtins {
         row!(DICTIONARY, DictionaryIsEmpty, "is_empty", [] => Bool),
         row!(DICTIONARY, DictionaryHas, "has", [Key] => Bool),
         row!(DICTIONARY, DictionaryGet, "get", [Key], [Any] => Variant),
-        row!(DICTIONARY, DictionaryGetOrAdd, "get_or_add", [Key], [Any] => Variant),
+        row!(DICTIONARY, DictionaryGetOrAdd, "get_or_add", [Key], [Value] => Variant),
         row!(DICTIONARY, DictionaryKeys, "keys", [] => Array),
         row!(DICTIONARY, DictionaryValues, "values", [] => Array),
         row!(DICTIONARY, DictionaryErase, "erase", [Key] => Bool),
@@ -254,20 +257,4 @@ fn first_named(rows: &[BuiltinRow], name: &[char]) -> Option<Builtin>
         }
     }
     None
-}
-
-/// Whether the ASCII name is written with these characters.
-fn is_written(name: &str, chars: &[char]) -> bool
-    ensures { result ≡ bytes_eq name.now chars.now }
-{
-    let bytes = name.as_bytes();
-    if bytes.len() != chars.len() {
-        return false;
-    }
-    for i in 0..chars.len() {
-        if char::from(bytes[i]) != chars[i] {
-            return false;
-        }
-    }
-    true
 }

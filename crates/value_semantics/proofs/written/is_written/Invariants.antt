@@ -1,6 +1,6 @@
 use Rattle.std.proofs.Common.{◌≡◌, drop}
 use Rattle.std.specs.Str.{bytes_eq}
-use Rattle.value_semantics.proofs.builtin_rows.is_written.Given as goal
+use Rattle.value_semantics.proofs.written.is_written.Given as goal
 
 -- the characters that are left are equal exactly where all are
 abbrev pub invariant-loop-i : goal.invariant-loop-i
