@@ -1,19 +1,22 @@
 //! The methods of arrays that do not write.
-ghost use Rattle.std.specs.Prelude.{◌≡◌, false, pos};
-ghost use Rattle.gd_containers.specs.Answers.{item_at};
-ghost use Rattle.gd_ops.specs.Answer.{Answers, and_then, exact, in_form};
-ghost use Rattle.gd_ops.specs.Equality.{same};
-ghost use Rattle.gd_ops.specs.Methods as spec;
+ghost use Rattle.std.specs.Prelude.{◌≡◌, Ok, false, map, pos};
+ghost use Rattle.gd_model.specs.Meant.{array_thing, datum};
+ghost use Rattle.gd_model.specs.Place.{element_at};
+ghost use Rattle.gd_model.specs.Whole.{AllWhole, Whole};
+ghost use Rattle.gd_answers.specs.Answers.{Gives, exact, meant};
+ghost use Rattle.value_semantics.specs.Answer.{and_then, in_form};
+ghost use Rattle.value_semantics.specs.Equality as equality;
+ghost use Rattle.value_semantics.specs.Made as made;
+ghost use Rattle.value_semantics.specs.Methods as spec;
 
-use crate::builtin::Builtin;
-use crate::equality::same;
-use crate::fresh::{Fresh, boolean, int, refused};
 use crate::misfit::misfit;
-use crate::operators::first_place;
 use crate::text_methods::found;
+use gd_answers::{Fresh, boolean, int, refused};
 use gd_containers::{Look, ThingFault, TypedArray};
 use gd_model::{RunFault, Value};
+use gd_operators::{first_place, same};
 use std::alloc::Global;
+use value_semantics::Builtin;
 
 /// The end of a slice that is not given.
 const NO_END: i64 = 2_147_483_647;
@@ -27,7 +30,9 @@ pub fn call_on_array<K: Look>(
     args: &[Value],
     look: &K,
 ) -> Result<Fresh, ThingFault>
-    ensures { Answers (spec.arrays_call (K.things look.now) method a.now args.now) result }
+    requires elements { AllWhole (K.things look.now) (K.names look.now) a.now.items }
+    requires whole { AllWhole (K.things look.now) (K.names look.now) args.now }
+    ensures { Gives (spec.arrays_call (K.store look.now) method (array_thing a.now) (map datum args.now)) result }
 {
     match method {
         Builtin::ArraySize
@@ -50,7 +55,7 @@ fn call_alone(
     a: &TypedArray,
     args: &[Value],
 ) -> Result<Fresh, ThingFault>
-    ensures { Answers (spec.alone (spec.array_alone method a.now) args.now) result }
+    ensures { Gives (spec.alone (spec.array_alone method (array_thing a.now)) (map datum args.now)) result }
 {
     match args {
         [] => alone(alloc, method, a),
@@ -59,7 +64,7 @@ fn call_alone(
 }
 
 fn alone(alloc: Global, method: Builtin, a: &TypedArray) -> Result<Fresh, ThingFault>
-    ensures { Answers (spec.array_alone method a.now) result }
+    ensures { Gives (spec.array_alone method (array_thing a.now)) result }
 {
     match method {
         Builtin::ArraySize => int(i64::from(a.size())),
@@ -73,7 +78,7 @@ fn alone(alloc: Global, method: Builtin, a: &TypedArray) -> Result<Fresh, ThingF
 }
 
 fn item_or_null(a: &TypedArray, at: i64) -> Result<Fresh, ThingFault>
-    ensures { Answers (Some (Ok (spec.item_or_null (item_at a.now.items at)))) result }
+    ensures { Gives (Ok (spec.item_or_null (element_at (map datum a.now.items) at))) result }
 {
     match a.get(at) {
         Ok(v) => Ok(Fresh::Value(v.share()?)),
@@ -82,13 +87,13 @@ fn item_or_null(a: &TypedArray, at: i64) -> Result<Fresh, ThingFault>
 }
 
 fn duplicate(alloc: Global, a: &TypedArray) -> Result<Fresh, ThingFault>
-    ensures { Answers (Some (Ok (Fresh.Array (record a.now { fixed = false })))) result }
+    ensures { Gives (Ok (made.array (record (array_thing a.now) { fixed = false }))) result }
 {
     Ok(Fresh::Array(a.slice(alloc, 0, i64::from(a.size()))?))
 }
 
 fn call_slice(alloc: Global, a: &TypedArray, args: &[Value]) -> Result<Fresh, ThingFault>
-    ensures { Answers (in_form (λ p. Fresh.Array (spec.sliced a.now p)) (spec.int_and_maybe (pos 2147483647) args.now)) result }
+    ensures { Gives (in_form (λ p. made.array (spec.sliced (array_thing a.now) p)) (spec.int_and_maybe (pos 2147483647) (map datum args.now))) result }
 {
     match args {
         [Value::Int(from)] => slice(alloc, a, *from, NO_END),
@@ -98,13 +103,15 @@ fn call_slice(alloc: Global, a: &TypedArray, args: &[Value]) -> Result<Fresh, Th
 }
 
 fn slice(alloc: Global, a: &TypedArray, from: i64, to: i64) -> Result<Fresh, ThingFault>
-    ensures { Answers (Some (Ok (Fresh.Array (spec.sliced a.now (from, to))))) result }
+    ensures { Gives (Ok (made.array (spec.sliced (array_thing a.now) (from, to)))) result }
 {
     Ok(Fresh::Array(a.slice(alloc, from, to)?))
 }
 
 fn call_has<K: Look>(a: &TypedArray, args: &[Value], look: &K) -> Result<Fresh, ThingFault>
-    ensures { result ≡ exact (and_then (spec.one_value args.now) (spec.has_gives (K.things look.now) a.now)) }
+    requires elements { AllWhole (K.things look.now) (K.names look.now) a.now.items }
+    requires whole { AllWhole (K.things look.now) (K.names look.now) args.now }
+    ensures { meant result ≡ exact (and_then (spec.one_value (map datum args.now)) (spec.has_gives (K.store look.now) (array_thing a.now))) }
 {
     match args {
         [v] => has(a, v, look),
@@ -113,7 +120,9 @@ fn call_has<K: Look>(a: &TypedArray, args: &[Value], look: &K) -> Result<Fresh, 
 }
 
 fn has<K: Look>(a: &TypedArray, v: &Value, look: &K) -> Result<Fresh, ThingFault>
-    ensures { result ≡ exact (spec.has_gives (K.things look.now) a.now v.now) }
+    requires elements { AllWhole (K.things look.now) (K.names look.now) a.now.items }
+    requires whole { Whole (K.things look.now) (K.names look.now) v.now }
+    ensures { meant result ≡ exact (spec.has_gives (K.store look.now) (array_thing a.now) (datum v.now)) }
 {
     match first_place(a, v, 0, look) {
         Ok(place) => boolean(place.is_some()),
@@ -122,7 +131,9 @@ fn has<K: Look>(a: &TypedArray, v: &Value, look: &K) -> Result<Fresh, ThingFault
 }
 
 fn call_count<K: Look>(a: &TypedArray, args: &[Value], look: &K) -> Result<Fresh, ThingFault>
-    ensures { result ≡ exact (and_then (spec.one_value args.now) (spec.count_gives (K.things look.now) a.now)) }
+    requires elements { AllWhole (K.things look.now) (K.names look.now) a.now.items }
+    requires whole { AllWhole (K.things look.now) (K.names look.now) args.now }
+    ensures { meant result ≡ exact (and_then (spec.one_value (map datum args.now)) (spec.count_gives (K.store look.now) (array_thing a.now))) }
 {
     match args {
         [v] => counted(a, v, look),
@@ -131,7 +142,9 @@ fn call_count<K: Look>(a: &TypedArray, args: &[Value], look: &K) -> Result<Fresh
 }
 
 fn counted<K: Look>(a: &TypedArray, v: &Value, look: &K) -> Result<Fresh, ThingFault>
-    ensures { result ≡ exact (spec.count_gives (K.things look.now) a.now v.now) }
+    requires elements { AllWhole (K.things look.now) (K.names look.now) a.now.items }
+    requires whole { Whole (K.things look.now) (K.names look.now) v.now }
+    ensures { meant result ≡ exact (spec.count_gives (K.store look.now) (array_thing a.now) (datum v.now)) }
 {
     match count(a, v, look) {
         Ok(n) => int(i64::from(n)),
@@ -141,7 +154,9 @@ fn counted<K: Look>(a: &TypedArray, v: &Value, look: &K) -> Result<Fresh, ThingF
 
 /// How many elements equal the value.
 fn count<K: Look>(a: &TypedArray, v: &Value, look: &K) -> Result<u32, ThingFault>
-    ensures { result ≡ exact (spec.count_from (λ x. same (K.things look.now) x v.now) 0 a.now.items) }
+    requires elements { AllWhole (K.things look.now) (K.names look.now) a.now.items }
+    requires whole { Whole (K.things look.now) (K.names look.now) v.now }
+    ensures { result ≡ exact (spec.count_from (λ x. equality.same (K.store look.now) x (datum v.now)) 0 (map datum a.now.items)) }
 {
     let items = a.items();
     let mut all = 0;
@@ -152,7 +167,9 @@ fn count<K: Look>(a: &TypedArray, v: &Value, look: &K) -> Result<u32, ThingFault
 }
 
 fn call_find<K: Look>(a: &TypedArray, args: &[Value], look: &K) -> Result<Fresh, ThingFault>
-    ensures { result ≡ exact (and_then (spec.value_and_maybe args.now) (spec.place_gives (K.things look.now) a.now)) }
+    requires elements { AllWhole (K.things look.now) (K.names look.now) a.now.items }
+    requires whole { AllWhole (K.things look.now) (K.names look.now) args.now }
+    ensures { meant result ≡ exact (and_then (spec.value_and_maybe (map datum args.now)) (spec.place_gives (K.store look.now) (array_thing a.now))) }
 {
     match args {
         [v] => place_found(a, v, 0, look),
@@ -162,7 +179,9 @@ fn call_find<K: Look>(a: &TypedArray, args: &[Value], look: &K) -> Result<Fresh,
 }
 
 fn place_found<K: Look>(a: &TypedArray, v: &Value, from: i64, look: &K) -> Result<Fresh, ThingFault>
-    ensures { result ≡ exact (spec.place_gives (K.things look.now) a.now (v.now, from)) }
+    requires elements { AllWhole (K.things look.now) (K.names look.now) a.now.items }
+    requires whole { Whole (K.things look.now) (K.names look.now) v.now }
+    ensures { meant result ≡ exact (spec.place_gives (K.store look.now) (array_thing a.now) (datum v.now, from)) }
 {
     match place_of(a, v, from, look) {
         Ok(place) => found(place),
@@ -177,7 +196,9 @@ fn place_of<K: Look>(
     from: i64,
     look: &K,
 ) -> Result<Option<u32>, ThingFault>
-    ensures { result ≡ exact (spec.place_of (K.things look.now) a.now (v.now, from)) }
+    requires elements { AllWhole (K.things look.now) (K.names look.now) a.now.items }
+    requires whole { Whole (K.things look.now) (K.names look.now) v.now }
+    ensures { result ≡ exact (spec.place_of (K.store look.now) (array_thing a.now) (datum v.now, from)) }
 {
     if from < 0 || from >= i64::from(a.size()) {
         return Ok(None);

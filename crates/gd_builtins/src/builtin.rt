@@ -1,14 +1,19 @@
 //! The builtins: the functions of the language, and the methods that do not write.
-ghost use Rattle.gd_ops.specs.Builtins as spec;
+ghost use Rattle.std.specs.Prelude.{map};
+ghost use Rattle.gd_model.specs.Meant.{datum};
+ghost use Rattle.gd_model.specs.Whole.{AllWhole};
+ghost use Rattle.gd_answers.specs.Answers.{Gives};
+ghost use Rattle.value_semantics.specs.Builtins.{called};
 
-use crate::fresh::Fresh;
 use crate::functions::{call_on_ints, call_on_values};
 use crate::makers::{call_char, call_range};
 use crate::methods::call_method;
-use crate::print::joined;
+use gd_answers::Fresh;
 use gd_containers::{Look, ThingFault};
 use gd_model::Value;
+use gd_printing::joined;
 use std::alloc::Global;
+use value_semantics::Builtin;
 
 /// What the builtin gives with these arguments, the receiver of a method being the first. `WrongNumberOfArguments`,
 /// then `ValueOfAnotherType`, then the faults of the builtin itself. The methods that write, and those of Callable
@@ -21,7 +26,8 @@ pub fn call_builtin<K: Look>(
     args: &[Value],
     look: &K,
 ) -> Result<Fresh, ThingFault>
-    ensures { spec.Gives (K.things look.now) (K.names look.now) builtin args.now result }
+    requires whole { AllWhole (K.things look.now) (K.names look.now) args.now }
+    ensures { Gives (called (K.store look.now) (K.names look.now) builtin (map datum args.now)) result }
 {
     match builtin {
         Builtin::Print | Builtin::Str => joined(alloc, args, &[], look),

@@ -1,19 +1,21 @@
 //! The methods of dictionaries that do not write.
-ghost use Rattle.std.specs.Prelude.{◌≡◌, ◌<◌, ◌≤◌, false, [], length, IfOk, OnOk, IfErr};
-ghost use Rattle.gd_containers.specs.Keys.{key_value};
-ghost use Rattle.gd_model.specs.Thing.{with_pair};
-ghost use Rattle.gd_ops.specs.Answer.{Answers, and_then, in_form};
-ghost use Rattle.gd_ops.specs.Equality.{same};
-ghost use Rattle.gd_ops.specs.Methods as spec;
+ghost use Rattle.std.specs.Prelude.{◌≡◌, ◌<◌, ◌≤◌, Ok, false, [], length, map, IfOk, OnOk, IfErr};
+ghost use Rattle.gd_model.specs.Meant.{datum, dict_thing, pair_datum};
+ghost use Rattle.gd_model.specs.View.{with_pair};
+ghost use Rattle.gd_model.specs.Whole.{AllWhole, Whole, key_value, pair_values};
+ghost use Rattle.gd_answers.specs.Answers.{AnswersAs, Gives};
+ghost use Rattle.value_semantics.specs.Answer.{and_then};
+ghost use Rattle.value_semantics.specs.Equality as equality;
+ghost use Rattle.value_semantics.specs.Made as made;
+ghost use Rattle.value_semantics.specs.Methods as spec;
 
-use crate::builtin::Builtin;
-use crate::equality::same;
-use crate::fresh::{Fresh, boolean, int, refused};
-use crate::operators::push;
+use gd_answers::{Fresh, boolean, int, refused};
 use gd_containers::{Look, MAX_ITEMS, OrderedDict, ThingFault, TypedArray, key_of};
 use gd_model::{Key, RunFault, Ty, Value};
+use gd_operators::{push, same};
 use no_memory::NoMemory;
 use std::alloc::Global;
+use value_semantics::Builtin;
 
 /// A method of the dictionary `d`. `WrongNumberOfArguments`, then `BadKey`, then `TooDeepToCompare`; `NoSuchMethod`
 /// where it is no method of dictionaries that does not write.
@@ -24,7 +26,9 @@ pub fn call_on_dict<K: Look>(
     args: &[Value],
     look: &K,
 ) -> Result<Fresh, ThingFault>
-    ensures { Answers (spec.dicts_call (K.things look.now) method d.now args.now) result }
+    requires elements { AllWhole (K.things look.now) (K.names look.now) (pair_values d.now.pairs) }
+    requires whole { AllWhole (K.things look.now) (K.names look.now) args.now }
+    ensures { Gives (spec.dicts_call (K.store look.now) method (dict_thing d.now) (map datum args.now)) result }
 {
     match method {
         Builtin::DictionarySize
@@ -46,7 +50,7 @@ fn call_alone(
     d: &OrderedDict,
     args: &[Value],
 ) -> Result<Fresh, ThingFault>
-    ensures { Answers (spec.alone (spec.dict_alone method d.now) args.now) result }
+    ensures { Gives (spec.alone (spec.dict_alone method (dict_thing d.now)) (map datum args.now)) result }
 {
     match args {
         [] => alone(alloc, method, d),
@@ -55,7 +59,7 @@ fn call_alone(
 }
 
 fn alone(alloc: Global, method: Builtin, d: &OrderedDict) -> Result<Fresh, ThingFault>
-    ensures { Answers (spec.dict_alone method d.now) result }
+    ensures { Gives (spec.dict_alone method (dict_thing d.now)) result }
 {
     match method {
         Builtin::DictionarySize => int(i64::from(d.size())),
@@ -69,7 +73,7 @@ fn alone(alloc: Global, method: Builtin, d: &OrderedDict) -> Result<Fresh, Thing
 }
 
 fn call_has(d: &OrderedDict, args: &[Value]) -> Result<Fresh, ThingFault>
-    ensures { Answers (and_then (spec.one_value args.now) (spec.has_key_gives d.now)) result }
+    ensures { Gives (and_then (spec.one_value (map datum args.now)) (spec.has_key_gives (dict_thing d.now))) result }
 {
     match args {
         [k] => has(d, k),
@@ -78,14 +82,14 @@ fn call_has(d: &OrderedDict, args: &[Value]) -> Result<Fresh, ThingFault>
 }
 
 fn has(d: &OrderedDict, k: &Value) -> Result<Fresh, ThingFault>
-    ensures { Answers (spec.has_key_gives d.now k.now) result }
+    ensures { Gives (spec.has_key_gives (dict_thing d.now) (datum k.now)) result }
 {
     let key = key_of(k)?;
     boolean(d.get(&key).is_some())
 }
 
 fn call_get(d: &OrderedDict, args: &[Value]) -> Result<Fresh, ThingFault>
-    ensures { Answers (and_then (spec.key_and_maybe args.now) (spec.value_or d.now)) result }
+    ensures { Gives (and_then (spec.key_and_maybe (map datum args.now)) (spec.value_or (dict_thing d.now))) result }
 {
     match args {
         [k] => value_or(d, k, &Value::Nil),
@@ -96,7 +100,7 @@ fn call_get(d: &OrderedDict, args: &[Value]) -> Result<Fresh, ThingFault>
 
 /// The value at the key, or the default. `BadKey` where it is no key.
 fn value_or(d: &OrderedDict, k: &Value, default: &Value) -> Result<Fresh, ThingFault>
-    ensures { Answers (spec.value_or d.now (k.now, default.now)) result }
+    ensures { Gives (spec.value_or (dict_thing d.now) (datum k.now, datum default.now)) result }
 {
     let key = key_of(k)?;
     match d.get(&key) {
@@ -119,7 +123,7 @@ fn value_of(key: &Key) -> Result<Value, NoMemory>
 }
 
 fn keys(alloc: Global, d: &OrderedDict) -> Result<Fresh, ThingFault>
-    ensures { Answers (Some (Ok (Fresh.Array (spec.keys_array d.now.pairs)))) result }
+    ensures { Gives (Ok (made.array (spec.keys_array (map pair_datum d.now.pairs)))) result }
 {
     let mut all = TypedArray::new(alloc, Ty::Variant, false);
     for i in 0..d.size() {
@@ -132,7 +136,7 @@ fn keys(alloc: Global, d: &OrderedDict) -> Result<Fresh, ThingFault>
 }
 
 fn values(alloc: Global, d: &OrderedDict) -> Result<Fresh, ThingFault>
-    ensures { Answers (Some (Ok (Fresh.Array (spec.values_array d.now.pairs)))) result }
+    ensures { Gives (Ok (made.array (spec.values_array (map pair_datum d.now.pairs)))) result }
 {
     let mut all = TypedArray::new(alloc, Ty::Variant, false);
     for i in 0..d.size() {
@@ -144,9 +148,11 @@ fn values(alloc: Global, d: &OrderedDict) -> Result<Fresh, ThingFault>
     Ok(Fresh::Array(all))
 }
 
+/// A writable dictionary with the same pairs: each is put at the end, since no two have one key.
 fn duplicate(alloc: Global, d: &OrderedDict) -> Result<Fresh, ThingFault>
-    ensures { Answers (Some (Ok (Fresh.Dict (spec.dict_copy d.now)))) result }
+    ensures { Gives (Ok (made.dict (spec.dict_copy (dict_thing d.now)))) result }
 {
+    d.keys_differ();
     let key = d.key_type().copy(alloc)?;
     let value = d.value_type().copy(alloc)?;
     let mut all = OrderedDict::of(alloc, false, key, value);
@@ -171,7 +177,9 @@ fn put(d: &mut OrderedDict, key: Key, value: Value) -> Result<(), ThingFault>
 }
 
 fn call_find_key<K: Look>(d: &OrderedDict, args: &[Value], look: &K) -> Result<Fresh, ThingFault>
-    ensures { Answers (and_then (spec.one_value args.now) (spec.find_key_gives (K.things look.now) d.now)) result }
+    requires elements { AllWhole (K.things look.now) (K.names look.now) (pair_values d.now.pairs) }
+    requires whole { AllWhole (K.things look.now) (K.names look.now) args.now }
+    ensures { Gives (and_then (spec.one_value (map datum args.now)) (spec.find_key_gives (K.store look.now) (dict_thing d.now))) result }
 {
     match args {
         [v] => found_key(d, v, look),
@@ -180,7 +188,9 @@ fn call_find_key<K: Look>(d: &OrderedDict, args: &[Value], look: &K) -> Result<F
 }
 
 fn found_key<K: Look>(d: &OrderedDict, v: &Value, look: &K) -> Result<Fresh, ThingFault>
-    ensures { Answers (spec.find_key_gives (K.things look.now) d.now v.now) result }
+    requires elements { AllWhole (K.things look.now) (K.names look.now) (pair_values d.now.pairs) }
+    requires whole { Whole (K.things look.now) (K.names look.now) v.now }
+    ensures { Gives (spec.find_key_gives (K.store look.now) (dict_thing d.now) (datum v.now)) result }
 {
     match find_key(d, v, look) {
         Ok(key) => Ok(Fresh::Value(key)),
@@ -190,7 +200,9 @@ fn found_key<K: Look>(d: &OrderedDict, v: &Value, look: &K) -> Result<Fresh, Thi
 
 /// The key of the first pair whose value equals `v`, or null.
 fn find_key<K: Look>(d: &OrderedDict, v: &Value, look: &K) -> Result<Value, ThingFault>
-    ensures { Answers (spec.first_key (λ x. same (K.things look.now) x v.now) d.now.pairs) result }
+    requires elements { AllWhole (K.things look.now) (K.names look.now) (pair_values d.now.pairs) }
+    requires whole { Whole (K.things look.now) (K.names look.now) v.now }
+    ensures { AnswersAs datum (spec.first_key (λ x. equality.same (K.store look.now) x (datum v.now)) (map pair_datum d.now.pairs)) result }
 {
     for i in 0..d.size() {
         let Some((key, value)) = d.at(i) else {

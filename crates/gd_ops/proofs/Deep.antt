@@ -1,100 +1,94 @@
 -- Comparing refuses only what is too deep.
 use Rattle.std.proofs.Common.{◌≡◌, ℕ, zero, suc, ◌+◌, Bool, true, false, List, [], ◌∷◌, length, nat_eq, ◌==◌, Option, None, Some, Result, Ok, Err, refl, ap, sym, ◌∙◌, if◌then◌else◌}
-use Rattle.slot_arena.specs.declared.handle.Handle.{Handle}
 use Rattle.gd_model.specs.declared.fault.RunFault.{RunFault}
 use Rattle.gd_model.specs.declared.fault.RunFault.TheVariants.{TooDeepToCompare}
-use Rattle.gd_model.specs.declared.value.Key.{Key}
-use Rattle.gd_model.specs.declared.value.Value.{Value}
-use Rattle.gd_model.specs.declared.value.Value.TheVariants as v
-use Rattle.gd_model.specs.Store.{Thing, array_behind, dict_behind}
-use Rattle.gd_model.specs.Thing.{ArrayThing, DictThing, value_at}
-use Rattle.gd_containers.specs.Keys.{key_value}
-use Rattle.gd_ops.specs.Answer.{and_then}
-use Rattle.gd_ops.specs.Equality.{and_also, same_items, same_at, same_pairs, same_arrays, same_dicts, arrays_by, dicts_by, same_by, inside, same}
-use Rattle.gd_ops.specs.Methods.{count_from, first_key}
-use Rattle.gd_ops.specs.Values.{first_place}
+use Rattle.gd_model.specs.Datum as d
+use Rattle.gd_model.specs.Datum.{Datum}
+use Rattle.gd_model.specs.Store.{Store, ArrayThing, DictThing, array_at, dict_at, value_at}
+use Rattle.value_semantics.specs.Answer.{and_then}
+use Rattle.value_semantics.specs.Equality.{Comparing, and_also, same_items, same_at, same_pairs, same_arrays, same_dicts, arrays_by, dicts_by, same_by, inside, same}
+use Rattle.value_semantics.specs.Methods.{count_from, first_key}
+use Rattle.value_semantics.specs.Operators.{first_place}
 
 -- whether a meaning is no refusal, or that of what is too deep
-abbrev pub deep_only : {A : Type 0} → Option (Result A RunFault) → Bool
-deep_only (Some (Err TooDeepToCompare)) = true
-deep_only (Some (Err f)) = false
-deep_only m = true
+abbrev pub deep_only : {A : Type 0} → Result A RunFault → Bool
+deep_only (Err TooDeepToCompare) = true
+deep_only (Err f) = false
+deep_only (Ok x) = true
 
-deep_then : {A B : Type 0} → (more : A → Option (Result B RunFault)) (m : Option (Result A RunFault)) → deep_only m ≡ true → ((x : A) → deep_only (more x) ≡ true) → deep_only (and_then m more) ≡ true
-deep_then more None f g = refl
-deep_then more (Some (Err TooDeepToCompare)) f g = refl
-deep_then more (Some (Err _)) f g = cc
-deep_then more (Some (Ok x)) f g = g x
+deep_then : {A B : Type 0} → (more : A → Result B RunFault) (m : Result A RunFault) → deep_only m ≡ true → ((x : A) → deep_only (more x) ≡ true) → deep_only (and_then m more) ≡ true
+deep_then more (Err TooDeepToCompare) f g = refl
+deep_then more (Err _) f g = cc
+deep_then more (Ok x) f g = g x
 
-deep_if : {A : Type 0} → (b : Bool) (m n : Option (Result A RunFault)) → deep_only m ≡ true → deep_only n ≡ true → deep_only (if b then m else n) ≡ true
+deep_if : {A : Type 0} → (b : Bool) (m n : Result A RunFault) → deep_only m ≡ true → deep_only n ≡ true → deep_only (if b then m else n) ≡ true
 deep_if true m n f g = f
 deep_if false m n f g = g
 
-deep_also : (m n : Option (Result Bool RunFault)) → deep_only m ≡ true → deep_only n ≡ true → deep_only (and_also m n) ≡ true
-deep_also m n f g = deep_then (λ yes. if yes then n else Some (Ok false)) m f (λ yes. deep_if yes n (Some (Ok false)) g refl)
+deep_also : (m n : Result Bool RunFault) → deep_only m ≡ true → deep_only n ≡ true → deep_only (and_also m n) ≡ true
+deep_also m n f g = deep_then (λ yes. if yes then n else Ok false) m f (λ yes. deep_if yes n (Ok false) g refl)
 
-deep_items : (eq : Value → Value → Option (Result Bool RunFault)) → ((x y : Value) → deep_only (eq x y) ≡ true) → (xs ys : List Value) → deep_only (same_items eq xs ys) ≡ true
-deep_items eq f [] ys = refl
-deep_items eq f (x ∷ xs) [] = refl
-deep_items eq f (x ∷ xs) (y ∷ ys) = deep_also (eq x y) (same_items eq xs ys) (f x y) (deep_items eq f xs ys)
+module _ (eq : Comparing) (f : (x y : Datum) → deep_only (eq x y) ≡ true) where
+  deep_items : (xs ys : List Datum) → deep_only (same_items eq xs ys) ≡ true
+  deep_items [] ys = refl
+  deep_items (x ∷ xs) [] = refl
+  deep_items (x ∷ xs) (y ∷ ys) = deep_also (eq x y) (same_items eq xs ys) (f x y) (deep_items xs ys)
 
-deep_at : (eq : Value → Value → Option (Result Bool RunFault)) → ((x y : Value) → deep_only (eq x y) ≡ true) → (x : Value) (o : Option Value) → deep_only (same_at eq x o) ≡ true
-deep_at eq f x None = refl
-deep_at eq f x (Some w) = f x w
+  deep_at : (x : Datum) (o : Option Datum) → deep_only (same_at eq x o) ≡ true
+  deep_at x None = refl
+  deep_at x (Some w) = f x w
 
-deep_pairs : (eq : Value → Value → Option (Result Bool RunFault)) → ((x y : Value) → deep_only (eq x y) ≡ true) → (ps others : List (Key × Value)) → deep_only (same_pairs eq ps others) ≡ true
-deep_pairs eq f [] others = refl
-deep_pairs eq f (p ∷ ps) others = deep_also (same_at eq p.1 (value_at others p.0)) (same_pairs eq ps others) (deep_at eq f p.1 (value_at others p.0)) (deep_pairs eq f ps others)
+  deep_pairs : (ps others : List (Datum × Datum)) → deep_only (same_pairs eq ps others) ≡ true
+  deep_pairs [] others = refl
+  deep_pairs (p ∷ ps) others = deep_also (same_at eq p.1 (value_at others p.0)) (same_pairs eq ps others) (deep_at p.1 (value_at others p.0)) (deep_pairs ps others)
 
-deep_arrays : (eq : Value → Value → Option (Result Bool RunFault)) → ((x y : Value) → deep_only (eq x y) ≡ true) → (a b : Option ArrayThing) → deep_only (same_arrays eq a b) ≡ true
-deep_arrays eq f None b = refl
-deep_arrays eq f (Some x) None = refl
-deep_arrays eq f (Some x) (Some y) = deep_if (length x.items == length y.items) (same_items eq x.items y.items) (Some (Ok false)) (deep_items eq f x.items y.items) refl
+  deep_arrays : (x y : ArrayThing) → deep_only (same_arrays eq x y) ≡ true
+  deep_arrays x y = deep_if (length x.items == length y.items) (same_items eq x.items y.items) (Ok false) (deep_items x.items y.items) refl
 
-deep_dicts : (eq : Value → Value → Option (Result Bool RunFault)) → ((x y : Value) → deep_only (eq x y) ≡ true) → (a b : Option DictThing) → deep_only (same_dicts eq a b) ≡ true
-deep_dicts eq f None b = refl
-deep_dicts eq f (Some x) None = refl
-deep_dicts eq f (Some x) (Some y) = deep_if (length x.pairs == length y.pairs) (same_pairs eq x.pairs y.pairs) (Some (Ok false)) (deep_pairs eq f x.pairs y.pairs) refl
+  deep_dicts : (x y : DictThing) → deep_only (same_dicts eq x y) ≡ true
+  deep_dicts x y = deep_if (length x.pairs == length y.pairs) (same_pairs eq x.pairs y.pairs) (Ok false) (deep_pairs x.pairs y.pairs) refl
 
 -- how what lies inside is compared refuses only that, where it is compared
-abbrev DeepInside : Option (Value → Value → Option (Result Bool RunFault)) → Type 0
-DeepInside i = (f : Value → Value → Option (Result Bool RunFault)) → i ≡ Some f → (x y : Value) → deep_only (f x y) ≡ true
+abbrev DeepInside : Option Comparing → Type 0
+DeepInside i = (f : Comparing) → i ≡ Some f → (x y : Datum) → deep_only (f x y) ≡ true
 
-deep_arrays_by : (things : Handle → Option Thing) (i : Option (Value → Value → Option (Result Bool RunFault))) → DeepInside i → (h j : Handle) → deep_only (arrays_by things i h j) ≡ true
-deep_arrays_by things None f h j = refl
-deep_arrays_by things (Some eq) f h j = deep_arrays eq (f eq refl) (array_behind (things h)) (array_behind (things j))
+module _ (store : Store) where
+  deep_arrays_by : (i : Option Comparing) → DeepInside i → (s t : ℕ) → deep_only (arrays_by store i s t) ≡ true
+  deep_arrays_by None f s t = refl
+  deep_arrays_by (Some eq) f s t = deep_arrays eq (f eq refl) (array_at store s) (array_at store t)
 
-deep_dicts_by : (things : Handle → Option Thing) (i : Option (Value → Value → Option (Result Bool RunFault))) → DeepInside i → (h j : Handle) → deep_only (dicts_by things i h j) ≡ true
-deep_dicts_by things None f h j = refl
-deep_dicts_by things (Some eq) f h j = deep_dicts eq (f eq refl) (dict_behind (things h)) (dict_behind (things j))
+  deep_dicts_by : (i : Option Comparing) → DeepInside i → (s t : ℕ) → deep_only (dicts_by store i s t) ≡ true
+  deep_dicts_by None f s t = refl
+  deep_dicts_by (Some eq) f s t = deep_dicts eq (f eq refl) (dict_at store s) (dict_at store t)
 
-deep_by : (things : Handle → Option Thing) (i : Option (Value → Value → Option (Result Bool RunFault))) → DeepInside i → (a b : Value) → deep_only (same_by things i a b) ≡ true
-deep_by things i f (v.Array h) (v.Array j) = deep_if (nat_eq h.serial j.serial) (Some (Ok true)) (arrays_by things i h j) refl (deep_arrays_by things i f h j)
-deep_by things i f (v.Dict h) (v.Dict j) = deep_if (nat_eq h.serial j.serial) (Some (Ok true)) (dicts_by things i h j) refl (deep_dicts_by things i f h j)
-deep_by things i f _ _ = refl
+  deep_by : (i : Option Comparing) → DeepInside i → (a b : Datum) → deep_only (same_by store i a b) ≡ true
+  deep_by i f (d.array s) (d.array t) = deep_if (nat_eq s t) (Ok true) (arrays_by store i s t) refl (deep_arrays_by i f s t)
+  deep_by i f (d.dictionary s) (d.dictionary t) = deep_if (nat_eq s t) (Ok true) (dicts_by store i s t) refl (deep_dicts_by i f s t)
+  deep_by i f _ _ = refl
 
-deep_inside : (things : Handle → Option Thing) (room : ℕ) → DeepInside (inside things room)
-unfolding inside
-deep_inside things zero f e x y = cc
-deep_inside things (suc room) f e x y =
-    let same : same_by things (inside things room) ≡ f = cc in
-    ap (λ (eq : Value → Value → Option (Result Bool RunFault)). deep_only (eq x y)) (sym same) ∙ deep_by things (inside things room) (deep_inside things room) x y
+  deep_inside : (room : ℕ) → DeepInside (inside store room)
+  unfolding inside
+  deep_inside zero f e x y = cc
+  deep_inside (suc room) f e x y =
+      let same : same_by store (inside store room) ≡ f = cc in
+      ap (λ (eq : Comparing). deep_only (eq x y)) (sym same) ∙ deep_by (inside store room) (deep_inside room) x y
 
-pub deep_same : (things : Handle → Option Thing) (a b : Value) → deep_only (same things a b) ≡ true
-deep_same things a b = deep_by things (inside things 64) (deep_inside things 64) a b
+  pub deep_same : (a b : Datum) → deep_only (same store a b) ≡ true
+  deep_same a b = deep_by (inside store 64) (deep_inside 64) a b
 
-pub deep_place : (test : Value → Option (Result Bool RunFault)) → ((x : Value) → deep_only (test x) ≡ true) → (place : ℕ) (xs : List Value) → deep_only (first_place test place xs) ≡ true
-deep_place test f place [] = refl
-deep_place test f place (x ∷ xs) =
-    deep_then (λ yes. if yes then Some (Ok (Some place)) else first_place test (place + 1) xs) (test x) (f x)
-    (λ yes. deep_if yes (Some (Ok (Some place))) (first_place test (place + 1) xs) refl (deep_place test f (place + 1) xs))
+module _ (test : Datum → Result Bool RunFault) (f : (x : Datum) → deep_only (test x) ≡ true) where
+  pub deep_place : (place : ℕ) (xs : List Datum) → deep_only (first_place test place xs) ≡ true
+  deep_place place [] = refl
+  deep_place place (x ∷ xs) =
+      deep_then (λ yes. if yes then Ok (Some place) else first_place test (place + 1) xs) (test x) (f x)
+      (λ yes. deep_if yes (Ok (Some place)) (first_place test (place + 1) xs) refl (deep_place (place + 1) xs))
 
-pub deep_count : (test : Value → Option (Result Bool RunFault)) → ((x : Value) → deep_only (test x) ≡ true) → (n : ℕ) (xs : List Value) → deep_only (count_from test n xs) ≡ true
-deep_count test f n [] = refl
-deep_count test f n (x ∷ xs) = deep_then (λ yes. count_from test (n + (if yes then 1 else 0)) xs) (test x) (f x) (λ yes. deep_count test f (n + (if yes then 1 else 0)) xs)
+  pub deep_count : (n : ℕ) (xs : List Datum) → deep_only (count_from test n xs) ≡ true
+  deep_count n [] = refl
+  deep_count n (x ∷ xs) = deep_then (λ yes. count_from test (n + (if yes then 1 else 0)) xs) (test x) (f x) (λ yes. deep_count (n + (if yes then 1 else 0)) xs)
 
-pub deep_key : (test : Value → Option (Result Bool RunFault)) → ((x : Value) → deep_only (test x) ≡ true) → (ps : List (Key × Value)) → deep_only (first_key test ps) ≡ true
-deep_key test f [] = refl
-deep_key test f (p ∷ ps) =
-    deep_then (λ yes. if yes then Some (Ok (key_value p.0)) else first_key test ps) (test p.1) (f p.1)
-    (λ yes. deep_if yes (Some (Ok (key_value p.0))) (first_key test ps) refl (deep_key test f ps))
+  pub deep_key : (ps : List (Datum × Datum)) → deep_only (first_key test ps) ≡ true
+  deep_key [] = refl
+  deep_key (p ∷ ps) =
+      deep_then (λ yes. if yes then Ok p.0 else first_key test ps) (test p.1) (f p.1)
+      (λ yes. deep_if yes (Ok p.0) (first_key test ps) refl (deep_key ps))

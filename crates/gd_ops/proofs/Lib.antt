@@ -1,18 +1,5 @@
-pub mod Equal
-pub mod Answer
-pub mod Printed
-pub mod Standing
-pub mod TextAnswers
-pub mod Pairs
-pub mod Operands
-pub mod Untaken
-pub mod KnownTypes
-pub mod Ranges
-pub mod BuiltinTable
-pub mod OperatorTable
-pub mod Deep
-pub mod Misfits
-pub mod Whole
-pub mod SameType
-pub mod Answered
-pub mod AnsweredCalls
+mod Deep
+mod KnownTypes
+mod Misfits
+mod Operands
+mod Whole

@@ -11,3 +11,4 @@ mod rows;
 mod strings;
 mod tables;
 mod values;
+mod whole;

@@ -1,8 +1,8 @@
 //! The methods of arrays.
 use super::fixture::Short::{Array, Bool, Int, Nil, Str};
 use super::fixture::Want::{Items, Value};
-use super::fixture::{Call, first_wrong, gave_writable, things, values};
-use crate::{Builtin, call_builtin};
+use super::fixture::{Call, call, first_wrong, gave_writable, things, values};
+use crate::Builtin;
 use gd_model::Ty;
 use std::test::Fail;
 
@@ -68,7 +68,7 @@ fn array_methods(rt: HostRuntime) -> Result<(), Fail> {
 fn a_copy_is_writable(rt: HostRuntime) -> Result<(), Fail> {
     let alloc = rt.alloc();
     let args = values(alloc, &[Array(2)])?;
-    let made = call_builtin(
+    let made = call(
         alloc,
         Builtin::ArrayDuplicate,
         args.as_slice(),

@@ -1,8 +1,8 @@
 //! The methods of dictionaries.
 use super::fixture::Short::{Bool, Dict, Int, Nil, Str};
 use super::fixture::Want::{Items, Value};
-use super::fixture::{Call, first_wrong, is, text, things, values};
-use crate::{Builtin, Fresh, call_builtin};
+use super::fixture::{Call, call, first_wrong, is, text, things, values};
+use crate::{Builtin, Fresh};
 use gd_containers::ThingFault;
 use gd_model::Key;
 use std::alloc::Global;
@@ -79,7 +79,7 @@ fn is_copy(alloc: Global, made: &Result<Fresh, ThingFault>) -> Result<bool, Fail
 fn a_copy_is_writable(rt: HostRuntime) -> Result<(), Fail> {
     let alloc = rt.alloc();
     let args = values(alloc, &[Dict(2)])?;
-    let made = call_builtin(
+    let made = call(
         alloc,
         Builtin::DictionaryDuplicate,
         args.as_slice(),

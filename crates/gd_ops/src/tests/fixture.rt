@@ -1,14 +1,20 @@
 //! What the tests share: values written short, the things of a run, and what a call gave.
-use crate::{Builtin, Fresh, apply, call_builtin, is_same};
+use super::whole::{all_whole, is_whole};
+use crate::{Builtin, Fresh, apply, call_builtin, is_same, same, text_of, truth};
 use gd_containers::{Look, OrderedDict, ThingFault, TypedArray, key_of};
-use gd_model::{RunFault, Ty, Value};
+use gd_model::{RunFault, Shared, Target, Ty, Value};
 use gd_syntax::{Operator, Text};
 use slot_arena::Handle;
 use std::alloc::Global;
 use std::test::Fail;
 
-/// The things and the class names of a run. The serial number of a handle is the place of its thing in the list that
-/// the index names: 0 the arrays, 1 the dictionaries, 2 the objects by their classes.
+/// The serial numbers of dictionaries and of objects begin here; those of arrays begin at 0.
+const FIRST_DICT: u64 = 1000;
+
+pub const FIRST_OBJECT: u64 = 2000;
+
+/// The things and the class names of a run. The serial number of a handle is the place of its thing in the list of its
+/// kind, counted from the first of the kind.
 #[derive(Drop)]
 pub struct Store {
     pub arrays: Vec<TypedArray>,
@@ -18,15 +24,20 @@ pub struct Store {
 }
 
 impl Look for Store {
-    ghost use Rattle.std.specs.Prelude.{[], option_map, slice_get, ◌==◌, if◌then◌else◌};
-    ghost use Rattle.gd_model.specs.Store.{array, dict, object};
+    ghost use Rattle.std.specs.Prelude.{◌-◌, [], option_map, slice_get, nat_lt, if◌then◌else◌, ap};
+    ghost use Rattle.gd_model.specs.Meant.{thing_of};
+    ghost use Rattle.gd_model.specs.View.{array, dict, object};
 
-    ghost things = { λ s h. if h.index == 0 then option_map array (slice_get s.arrays.items h.serial) else (if h.index == 1 then option_map dict (slice_get s.dicts.items h.serial) else option_map (λ class. object class []) (slice_get s.objects.items h.serial)) };
+    ghost things = { λ s h. if nat_lt h.serial 1000 then option_map array (slice_get s.arrays.items h.serial) else (if nat_lt h.serial 2000 then option_map dict (slice_get s.dicts.items (h.serial - 1000)) else option_map (λ class. object class []) (slice_get s.objects.items (h.serial - 2000))) };
+
+    ghost store = { λ s n. option_map thing_of (if nat_lt n 1000 then option_map array (slice_get s.arrays.items n) else (if nat_lt n 2000 then option_map dict (slice_get s.dicts.items (n - 1000)) else option_map (λ class. object class []) (slice_get s.objects.items (n - 2000)))) };
 
     ghost names = { λ s n. slice_get s.names.items n };
 
+    ghost by_serial = { λ s h thing e. ap (λ found. option_map thing_of found) e };
+
     fn array(&self, h: Handle) -> Option<&TypedArray> {
-        if h.index == 0 {
+        if h.serial < FIRST_DICT {
             self.arrays.get(h.serial as usize)
         } else {
             None
@@ -34,18 +45,20 @@ impl Look for Store {
     }
 
     fn dict(&self, h: Handle) -> Option<&OrderedDict> {
-        if h.index == 1 {
-            self.dicts.get(h.serial as usize)
+        if h.serial >= FIRST_DICT && h.serial < FIRST_OBJECT {
+            self.dicts.get((h.serial - FIRST_DICT) as usize)
         } else {
             None
         }
     }
 
     fn class_of(&self, h: Handle) -> Option<u32> {
-        if h.index == 0 || h.index == 1 {
-            None
+        if h.serial >= FIRST_OBJECT {
+            self.objects
+                .get((h.serial - FIRST_OBJECT) as usize)
+                .copied()
         } else {
-            self.objects.get(h.serial as usize).copied()
+            None
         }
     }
 
@@ -70,15 +83,23 @@ pub fn text(alloc: Global, chars: &str) -> Result<Text, Fail> {
     Ok(Text::from_utf8(alloc, chars.as_bytes())?)
 }
 
+/// The handle of the thing at a place of a list whose things have serial numbers from `first` on.
+pub fn handle(first: u64, place: u64) -> Handle {
+    Handle {
+        index: 0,
+        serial: first.saturating_add(place),
+    }
+}
+
 pub fn value(alloc: Global, short: Short) -> Result<Value, Fail> {
     Ok(match short {
         Short::Nil => Value::Nil,
         Short::Bool(b) => Value::Bool(b),
         Short::Int(n) => Value::Int(n),
         Short::Str(chars) => Value::Str(text(alloc, chars)?),
-        Short::Object(serial) => Value::Object(Handle { index: 2, serial }),
-        Short::Array(serial) => Value::Array(Handle { index: 0, serial }),
-        Short::Dict(serial) => Value::Dict(Handle { index: 1, serial }),
+        Short::Object(place) => Value::Object(handle(FIRST_OBJECT, place)),
+        Short::Array(place) => Value::Array(handle(0, place)),
+        Short::Dict(place) => Value::Dict(handle(FIRST_DICT, place)),
     })
 }
 
@@ -88,6 +109,16 @@ pub fn values(alloc: Global, shorts: &[Short]) -> Result<Vec<Value>, Fail> {
         all.push(value(alloc, *short)?)?;
     }
     Ok(all)
+}
+
+/// A Callable of a static function of the class 0.
+pub fn callable(alloc: Global, name: Text) -> Result<Value, Fail> {
+    let target = Target {
+        object: None,
+        class: 0,
+        name,
+    };
+    Ok(Value::Callable(Shared::new(alloc, target)?))
 }
 
 /// A writable array of these elements.
@@ -218,6 +249,60 @@ pub fn gave_writable(made: &Result<Fresh, ThingFault>, element: &Ty) -> bool {
     }
 }
 
+/// In how many steps the values of tests lead to no further thing.
+const DEEPEST: u32 = 200;
+
+/// The builtin on values whose things are there; where one is not, want of memory, which no test wants.
+pub fn call(
+    alloc: Global,
+    builtin: Builtin,
+    args: &[Value],
+    store: &Store,
+) -> Result<Fresh, ThingFault> {
+    if !all_whole(args, store, DEEPEST) {
+        return Err(ThingFault::NoMemory);
+    }
+    call_builtin(alloc, builtin, args, store)
+}
+
+/// The operator on such values.
+pub fn operated(
+    alloc: Global,
+    op: Operator,
+    a: &Value,
+    b: &Value,
+    store: &Store,
+) -> Result<Fresh, ThingFault> {
+    if !is_whole(a, store, DEEPEST) || !is_whole(b, store, DEEPEST) {
+        return Err(ThingFault::NoMemory);
+    }
+    apply(alloc, op, a, b, store)
+}
+
+/// Whether two such values are equal.
+pub fn compared(a: &Value, b: &Value, store: &Store) -> Result<bool, ThingFault> {
+    if !is_whole(a, store, DEEPEST) || !is_whole(b, store, DEEPEST) {
+        return Err(ThingFault::NoMemory);
+    }
+    same(a, b, store)
+}
+
+/// The printed form of such a value.
+pub fn printed(alloc: Global, v: &Value, store: &Store) -> Result<Text, ThingFault> {
+    if !is_whole(v, store, DEEPEST) {
+        return Err(ThingFault::NoMemory);
+    }
+    text_of(alloc, v, store)
+}
+
+/// Whether such a value counts as true.
+pub fn counts_as_true(v: &Value, store: &Store) -> Option<bool> {
+    if !is_whole(v, store, DEEPEST) {
+        return None;
+    }
+    Some(truth(v, store))
+}
+
 /// A call of a builtin with its arguments, and what it is to give.
 #[derive(Clone, Copy)]
 pub struct Call(pub Builtin, pub &'static [Short], pub Want);
@@ -227,7 +312,7 @@ pub fn first_wrong(alloc: Global, calls: &[Call], store: &Store) -> Result<Optio
     for i in 0..calls.len() {
         let Call(builtin, args, want) = calls[i];
         let args = values(alloc, args)?;
-        let made = call_builtin(alloc, builtin, args.as_slice(), store);
+        let made = call(alloc, builtin, args.as_slice(), store);
         if !gave(alloc, made, want)? {
             return Ok(Some(i));
         }
@@ -261,5 +346,5 @@ pub fn applied(
 ) -> Result<Result<Fresh, ThingFault>, Fail> {
     let a = value(alloc, a)?;
     let b = value(alloc, b)?;
-    Ok(apply(alloc, op, &a, &b, store))
+    Ok(operated(alloc, op, &a, &b, store))
 }

@@ -2,12 +2,12 @@
 use super::fixture::Short::{Array, Bool, Int, Str};
 use super::fixture::Want::{Fault, Value as Given};
 use super::fixture::{
-    Call, Store, Use, applied, array_of, first_wrong, first_wrong_use, only_arrays, put_chain,
-    value, values,
+    Call, Store, Use, applied, array_of, call, callable, first_wrong, first_wrong_use, only_arrays,
+    operated, printed, put_chain, value, values,
 };
-use crate::{Builtin, Fresh, apply, call_builtin, text_of};
+use crate::{Builtin, Fresh};
 use gd_containers::ThingFault;
-use gd_model::{RunFault, Target, Ty, Value};
+use gd_model::{RunFault, Ty, Value};
 use gd_syntax::Operator;
 use std::alloc::Global;
 use std::test::Fail;
@@ -15,7 +15,7 @@ use std::test::Fail;
 /// The longest String, of 16,777,216 code points.
 fn longest(alloc: Global, things: &Store) -> Result<Value, Fail> {
     let args = values(alloc, &[Str("a"), Int(1 << 24)])?;
-    match call_builtin(alloc, Builtin::StringRepeat, args.as_slice(), things)? {
+    match call(alloc, Builtin::StringRepeat, args.as_slice(), things)? {
         Fresh::Value(v) => Ok(v),
         _ => Ok(Value::Nil),
     }
@@ -24,11 +24,7 @@ fn longest(alloc: Global, things: &Store) -> Result<Value, Fail> {
 /// A Callable whose name alone is the longest String.
 fn long_callable(alloc: Global, things: &Store) -> Result<Value, Fail> {
     match longest(alloc, things)? {
-        Value::Str(name) => Ok(Value::Callable(Target {
-            object: None,
-            class: 0,
-            name,
-        })),
+        Value::Str(name) => Ok(callable(alloc, name)?),
         other => Ok(other),
     }
 }
@@ -44,9 +40,9 @@ fn longer_strings_are_refused(rt: HostRuntime) -> Result<(), Fail> {
     let long = longest(alloc, &things)?;
     let more = value(alloc, Str("b"))?;
     let pattern = value(alloc, Str("b%s"))?;
-    let joined = apply(alloc, Operator::Add, &long, &more, &things);
+    let joined = operated(alloc, Operator::Add, &long, &more, &things);
     assert!(rt; is_too_long(&joined));
-    let formatted = apply(alloc, Operator::Remainder, &pattern, &long, &things);
+    let formatted = operated(alloc, Operator::Remainder, &pattern, &long, &things);
     assert!(rt; is_too_long(&formatted));
     Ok(())
 }
@@ -56,12 +52,12 @@ fn longer_printed_forms_are_refused(rt: HostRuntime) -> Result<(), Fail> {
     let alloc = rt.alloc();
     let things = only_arrays(alloc, Vec::new(alloc));
     let callable = long_callable(alloc, &things)?;
-    assert!(rt; is_too_long(&text_of(alloc, &callable, &things)));
+    assert!(rt; is_too_long(&printed(alloc, &callable, &things)));
     let pattern = value(alloc, Str("%s"))?;
-    let formatted = apply(alloc, Operator::Remainder, &pattern, &callable, &things);
+    let formatted = operated(alloc, Operator::Remainder, &pattern, &callable, &things);
     assert!(rt; is_too_long(&formatted));
-    let printed = call_builtin(alloc, Builtin::Str, &[callable], &things);
-    assert!(rt; is_too_long(&printed));
+    let made = call(alloc, Builtin::Str, &[callable], &things);
+    assert!(rt; is_too_long(&made));
     Ok(())
 }
 
@@ -81,7 +77,7 @@ fn longer_joined_arrays_are_refused(rt: HostRuntime) -> Result<(), Fail> {
     let alloc = rt.alloc();
     let mut things = only_arrays(alloc, Vec::new(alloc));
     let args = values(alloc, &[Int(8_388_609)])?;
-    let made = call_builtin(alloc, Builtin::Range, args.as_slice(), &things)?;
+    let made = call(alloc, Builtin::Range, args.as_slice(), &things)?;
     if let Fresh::Array(half) = made {
         things.arrays.push(half)?;
     }

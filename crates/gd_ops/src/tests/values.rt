@@ -1,12 +1,12 @@
 //! Equality, truth and printed forms.
 use super::fixture::Short::{Array, Bool, Dict, Int, Nil, Object, Str};
 use super::fixture::{
-    Short, Store, Want, array_of, gave, only_arrays, put_chain, text, things, value,
+    FIRST_OBJECT, Short, Store, Want, array_of, call, callable, compared, counts_as_true, gave,
+    handle, only_arrays, printed, put_chain, text, things, value,
 };
-use crate::{Builtin, Kind, call_builtin, kind_of, same, text_of, truth};
-use gd_containers::{ThingFault, TypedArray};
-use gd_model::{RunFault, Target, Ty, Value};
-use slot_arena::Handle;
+use crate::{Builtin, Kind, kind_of};
+use gd_containers::ThingFault;
+use gd_model::{RunFault, Shared, SignalSource, Ty, Value};
 use std::alloc::Global;
 use std::test::Fail;
 
@@ -31,7 +31,7 @@ fn equal_values(rt: HostRuntime) -> Result<(), Fail> {
     let things = things(alloc)?;
     for (a, b, wanted) in PAIRS {
         let (a, b) = (value(alloc, *a)?, value(alloc, *b)?);
-        assert!(rt; matches!(same(&a, &b, &things), Ok(yes) if yes == *wanted));
+        assert!(rt; matches!(compared(&a, &b, &things), Ok(yes) if yes == *wanted));
     }
     Ok(())
 }
@@ -46,7 +46,7 @@ fn deep_arrays_are_compared(rt: HostRuntime) -> Result<(), Fail> {
     let things = only_arrays(alloc, arrays);
     for (a, b, wanted) in [(0, 65, false), (1, 66, true), (0, 0, true)] {
         let (a, b) = (value(alloc, Array(a))?, value(alloc, Array(b))?);
-        let made = same(&a, &b, &things);
+        let made = compared(&a, &b, &things);
         assert_eq!(rt; matches!(made, Ok(true)), wanted);
         let too_deep = matches!(made, Err(ThingFault::Run(RunFault::TooDeepToCompare)));
         assert_eq!(rt; too_deep, !wanted);
@@ -55,7 +55,7 @@ fn deep_arrays_are_compared(rt: HostRuntime) -> Result<(), Fail> {
 }
 
 fn prints(alloc: Global, v: &Value, things: &Store, wanted: &str) -> Result<bool, Fail> {
-    Ok(text_of(alloc, v, things)? == text(alloc, wanted)?)
+    Ok(printed(alloc, v, things)? == text(alloc, wanted)?)
 }
 
 /// A value, its truth and its printed form.
@@ -67,7 +67,7 @@ const VALUES: &[(Short, bool, &str)] = &[
     (Int(i64::MIN), true, "-9223372036854775808"),
     (Str(""), false, ""),
     (Str("a\n\""), true, "a\n\""),
-    (Object(0), true, "<N#0>"),
+    (Object(0), true, "<N#2000>"),
     (Array(0), false, "[]"),
     (Array(3), true, "[1, \"a\", <null>]"),
     (Dict(0), false, "{  }"),
@@ -78,60 +78,60 @@ const VALUES: &[(Short, bool, &str)] = &[
 fn truths_and_printed_forms(rt: HostRuntime) -> Result<(), Fail> {
     let alloc = rt.alloc();
     let things = things(alloc)?;
-    for (v, is_true, printed) in VALUES {
+    for (v, is_true, form) in VALUES {
         let v = value(alloc, *v)?;
-        assert!(rt;
-            matches!(truth(&v, &things), Ok(yes) if yes == *is_true),
-            "{printed}"
-        );
-        assert!(rt; prints(alloc, &v, &things, printed)?, "{printed}");
+        assert!(rt; counts_as_true(&v, &things) == Some(*is_true), "{form}");
+        assert!(rt; prints(alloc, &v, &things, form)?, "{form}");
     }
     Ok(())
 }
 
 /// The static function `f` of the class `N`.
-fn callable(alloc: Global) -> Result<Value, Fail> {
-    Ok(Value::Callable(Target {
-        object: None,
-        class: 0,
-        name: text(alloc, "f")?,
-    }))
+fn static_function(alloc: Global) -> Result<Value, Fail> {
+    callable(alloc, text(alloc, "f")?)
 }
 
 /// The signal `hit` of the one object.
 fn signal(alloc: Global) -> Result<Value, Fail> {
-    let emitter = Handle {
-        index: 2,
-        serial: 0,
+    let source = SignalSource {
+        emitter: handle(FIRST_OBJECT, 0),
+        name: text(alloc, "hit")?,
     };
-    Ok(Value::Signal(emitter, text(alloc, "hit")?))
+    Ok(Value::Signal(Shared::new(alloc, source)?))
 }
 
 #[test]
 fn callables_and_signals(rt: HostRuntime) -> Result<(), Fail> {
     let alloc = rt.alloc();
     let things = things(alloc)?;
-    let (callable, signal) = (callable(alloc)?, signal(alloc)?);
+    let (callable, signal) = (static_function(alloc)?, signal(alloc)?);
     assert!(rt; prints(alloc, &callable, &things, "<callable f>")?);
     assert!(rt; prints(alloc, &signal, &things, "<signal hit>")?);
     assert_eq!(rt; kind_of(&callable), Kind::Callable);
-    assert!(rt; matches!(same(&callable, &callable, &things), Ok(true)));
-    assert!(rt; matches!(truth(&signal, &things), Ok(true)));
+    assert!(rt; matches!(compared(&callable, &callable, &things), Ok(true)));
+    assert!(rt; counts_as_true(&signal, &things) == Some(true));
     Ok(())
 }
 
 /// Whether the builtin gives this for the one argument.
 fn given(alloc: Global, builtin: Builtin, v: Value, want: Short) -> Result<bool, Fail> {
-    let made = call_builtin(alloc, builtin, &[v], &things(alloc)?);
+    let made = call(alloc, builtin, &[v], &things(alloc)?);
     gave(alloc, made, Want::Value(want))
 }
 
 #[test]
 fn builtins_on_callables_and_signals(rt: HostRuntime) -> Result<(), Fail> {
     let alloc = rt.alloc();
-    assert!(rt; given(alloc, Builtin::Typeof, callable(alloc)?, Int(25))?);
+    assert!(rt; given(alloc, Builtin::Typeof, static_function(alloc)?, Int(25))?);
     assert!(rt; given(alloc, Builtin::Typeof, signal(alloc)?, Int(26))?);
-    assert!(rt; given(alloc, Builtin::Str, callable(alloc)?, Str("<callable f>"))?);
+    assert!(rt;
+        given(
+            alloc,
+            Builtin::Str,
+            static_function(alloc)?,
+            Str("<callable f>")
+        )?
+    );
     assert!(rt; given(alloc, Builtin::Str, signal(alloc)?, Str("<signal hit>"))?);
     Ok(())
 }

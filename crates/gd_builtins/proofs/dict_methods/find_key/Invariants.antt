@@ -1,7 +1,11 @@
-use Rattle.std.proofs.Common.{◌≡◌, drop}
-use Rattle.gd_ops.specs.Equality.{same}
-use Rattle.gd_ops.specs.Methods.{first_key}
-use Rattle.gd_ops.proofs.dict_methods.find_key.Given as goal
+use Rattle.std.proofs.Common.{◌≡◌, map, drop}
+use Rattle.gd_model.specs.Datum.{Datum}
+use Rattle.gd_model.specs.Meant.{datum, pair_datum}
+use Rattle.value_semantics.specs.Equality.{same}
+use Rattle.value_semantics.specs.Methods.{first_key}
+use Rattle.gd_builtins.proofs.dict_methods.find_key.Given as goal
 
 abbrev pub invariant-loop-i : goal.invariant-loop-i
-invariant-loop-i g l = first_key (λ x. same (g.K.Look.things l.look) x l.v) (drop l.i l.d.pairs) ≡ first_key (λ x. same (g.K.Look.things l.look) x l.v) l.d.pairs
+invariant-loop-i g l =
+    let test = λ (x : Datum). same (g.K.Look.store l.look) x (datum l.v) in
+    first_key test (map pair_datum (drop l.i l.d.pairs)) ≡ first_key test (map pair_datum l.d.pairs)
