@@ -9,7 +9,7 @@ use Rattle.gd_model.specs.View.{ThingView, array_in, dict_in, class_in}
 use Rattle.assignability.specs.Assign.{is_among}
 
 -- by the shape of the type
-abbrev pub FitsShape : (ℕ → List ℕ) → (Handle → Option Thing) → Ty-F Ty → Value → Type 0
+abbrev pub FitsShape : (ℕ → List ℕ) → (Handle → Option ThingView) → Ty-F Ty → Value → Type 0
 FitsShape bases thing Variant x = ⊤
 FitsShape bases thing Nil v.Nil = ⊤
 FitsShape bases thing Void v.Nil = ⊤
@@ -20,14 +20,14 @@ FitsShape bases thing Bool (v.Bool b) = ⊤
 FitsShape bases thing Int (v.Int n) = ⊤
 FitsShape bases thing Str (v.Str t) = ⊤
 FitsShape bases thing Callable (v.Callable t) = ⊤
-FitsShape bases thing Signal (v.Signal h n) = ⊤
-FitsShape bases thing (Class c) (v.Object h) = IsSomeAnd (class_behind (thing h)) (λ d. IsTrue (is_among (bases d) c))
+FitsShape bases thing Signal (v.Signal s) = ⊤
+FitsShape bases thing (Class c) (v.Object h) = IsSomeAnd (class_in (thing h)) (λ d. IsTrue (is_among (bases d) c))
 FitsShape bases thing Array (v.Array h) = ⊤
-FitsShape bases thing (ArrayOf e) (v.Array h) = IsSomeAnd (array_behind (thing h)) (λ a. a.element ≡ e)
+FitsShape bases thing (ArrayOf e) (v.Array h) = IsSomeAnd (array_in (thing h)) (λ a. a.element ≡ e)
 FitsShape bases thing Dict (v.Dict h) = ⊤
-FitsShape bases thing (DictOf k w) (v.Dict h) = IsSomeAnd (dict_behind (thing h)) (λ d. (d.key_type ≡ k) × (d.value_type ≡ w))
+FitsShape bases thing (DictOf k w) (v.Dict h) = IsSomeAnd (dict_in (thing h)) (λ d. (d.key_type ≡ k) × (d.value_type ≡ w))
 FitsShape bases thing _ _ = ⊥
 
 -- the value fits the type: `bases` are the bases of each class, and `thing` is the thing behind each handle that is alive
-abbrev pub Fits : (ℕ → List ℕ) → (Handle → Option Thing) → Ty → Value → Type 0
+abbrev pub Fits : (ℕ → List ℕ) → (Handle → Option ThingView) → Ty → Value → Type 0
 Fits bases thing t x = FitsShape bases thing (out-Ty t) x
