@@ -1,5 +1,5 @@
 -- What a thing holds is given up in two parts: by its values, and by its pairs.
-use Rattle.std.proofs.Common.{◌≡◌, ℕ, ◌-◌, List, [], ◌∷◌, ◌++◌, map, Option, refl, sym, ap, ◌∙◌}
+use Rattle.std.proofs.Common.{◌≡◌, ◌-◌, List, [], ◌∷◌, ◌++◌, map, Option, refl, sym, ap, ◌∙◌}
 use Rattle.std.proofs.lemmas.List.Elements.{filter_map-append}
 use Rattle.slot_arena.specs.declared.handle.Handle.{Handle}
 use Rattle.slot_arena.specs.Slots.{Entry, with_count}
@@ -7,7 +7,7 @@ use Rattle.gd_model.specs.declared.key.Key.{Key}
 use Rattle.gd_model.specs.declared.value.Value.{Value}
 use Rattle.gd_holding.specs.Handles.{value_handle, pair_places}
 use Rattle.gd_holding.specs.Holding.{filled, CanGiveUp}
-use Rattle.gd_holding.specs.Rounds.{HeapView, given_up}
+use Rattle.gd_holding.specs.Rounds.{given_up}
 
 pub in_parts : (places : List (Option Handle)) (values vs : List Value) (pairs ps : List (Key × Value)) → places ≡ map value_handle values ++ pair_places pairs → vs ≡ values → pairs ≡ ps → filled places ≡ filled (map value_handle vs) ++ filled (pair_places ps)
 in_parts places values vs pairs ps placed same same' =

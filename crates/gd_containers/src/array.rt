@@ -1,5 +1,5 @@
 //! Arrays that know the type of their elements.
-ghost use Rattle.std.specs.Prelude.{◌≡◌, ◌≤◌, ◌++◌, [], ◌∷◌, Some, None, true, false, length, slice_range, remove, insert, slice_set, option_map, unwrap_or, IfOk, OnOk, OnErr, MatchResult, IsTrue, ◌↔◌};
+ghost use Rattle.std.specs.Prelude.{◌≡◌, ◌≤◌, ◌++◌, [], ◌∷◌, Some, None, true, false, length, take, drop, reverse, replicate, slice_range, remove, insert, slice_set, option_map, unwrap_or, IfOk, OnOk, OnErr, MatchResult, IsTrue, ◌↔◌};
 ghost use Rattle.gd_model.specs.Place as spec;
 
 use crate::{MAX_ITEMS, ThingFault, clamped_place, gap_place, item_place};
@@ -34,7 +34,7 @@ impl Model for TypedArray {
 }
 
 impl TypedArray {
-    ghost use Rattle.gd_containers.specs.Answers.{RefusedBy, push_fault, insert_fault, set_fault, remove_fault, clear_fault, item_at};
+    ghost use Rattle.gd_containers.specs.Answers.{RefusedBy, push_fault, insert_fault, set_fault, remove_fault, clear_fault, extend_fault, fill_fault, resize_fault, resized, cut_off, item_at};
 
     /// An empty array.
     pub fn new(alloc: Global, element: Ty, fixed: bool) -> TypedArray
@@ -188,6 +188,118 @@ impl TypedArray {
         Ok(mem::replace(&mut self.items, empty))
     }
 
+    /// Makes room for so many elements more.
+    pub fn reserve(&mut self, more: u32) -> Result<(), NoMemory>
+        ensures { self.new ≡ self.old }
+    {
+        self.items.reserve(more as usize)?;
+        Ok(())
+    }
+
+    /// Adds these elements at the end. `ReadOnly`, then `ValueOfAnotherType` where one does not fit, then `TooLong`.
+    pub fn extend(&mut self, mut more: Vec<Value>, fits: bool) -> Result<(), ThingFault>
+        ensures ok { OnOk result (self.new ≡ record self.old { items = self.old.items ++ more.items }) }
+        ensures err { OnErr result (self.new ≡ self.old) }
+        ensures faults { RefusedBy (extend_fault self.old (length more.items) fits) result }
+    {
+        if self.fixed {
+            return Err(ThingFault::Run(RunFault::ReadOnly));
+        }
+        if !fits {
+            return Err(ThingFault::Run(RunFault::ValueOfAnotherType));
+        }
+        if more.len() > MAX_ITEMS - self.items.len() {
+            return Err(ThingFault::Run(RunFault::TooLong));
+        }
+        match self.items.append(&mut more) {
+            Ok(()) => Ok(()),
+            Err(_) => Err(ThingFault::NoMemory),
+        }
+    }
+
+    /// Turns the order of the elements. `ReadOnly`.
+    pub fn reverse(&mut self) -> Result<(), ThingFault>
+        ensures ok { OnOk result (self.new ≡ record self.old { items = reverse self.old.items }) }
+        ensures err { OnErr result (self.new ≡ self.old) }
+        ensures faults { RefusedBy (clear_fault self.old.fixed) result }
+    {
+        if self.fixed {
+            return Err(ThingFault::Run(RunFault::ReadOnly));
+        }
+        self.items.reverse();
+        Ok(())
+    }
+
+    /// Cuts off the elements from place `size` on, and gives them. `ReadOnly`.
+    pub fn truncate(&mut self, size: u32) -> Result<Vec<Value>, ThingFault>
+        ensures cut { IfOk result (λ cut. cut.items ≡ drop size self.old.items) }
+        ensures ok { OnOk result (self.new ≡ record self.old { items = take size self.old.items }) }
+        ensures err { OnErr result (self.new ≡ self.old) }
+        ensures faults { RefusedBy (clear_fault self.old.fixed) result }
+    {
+        if self.fixed {
+            return Err(ThingFault::Run(RunFault::ReadOnly));
+        }
+        let from = self.items.len().min(size as usize);
+        match self.items.split_off(from) {
+            Ok(cut) => Ok(cut),
+            Err(_) => Err(ThingFault::NoMemory),
+        }
+    }
+
+    /// Writes the value at each place, and gives the old elements. `ReadOnly`, then `ValueOfAnotherType`.
+    pub fn fill(&mut self, v: &Value, fits: bool) -> Result<Vec<Value>, ThingFault>
+        ensures old { IfOk result (λ old. old.items ≡ self.old.items) }
+        ensures ok { OnOk result (self.new ≡ record self.old { items = replicate (length self.old.items) v.now }) }
+        ensures err { OnErr result (self.new ≡ self.old) }
+        ensures faults { RefusedBy (fill_fault self.old fits) result }
+    {
+        if self.fixed {
+            return Err(ThingFault::Run(RunFault::ReadOnly));
+        }
+        if !fits {
+            return Err(ThingFault::Run(RunFault::ValueOfAnotherType));
+        }
+        let all = copies(*self.items.allocator(), v, self.items.len())?;
+        Ok(mem::replace(&mut self.items, all))
+    }
+
+    /// Makes the array as long as `size` says: new elements are `start`, and those that are cut off are given.
+    /// `ReadOnly`, then `OutOfRange` for a size below 0, then `TooLong`.
+    pub fn resize(&mut self, size: i64, start: &Value) -> Result<Vec<Value>, ThingFault>
+        ensures cut { IfOk result (λ cut. cut.items ≡ cut_off self.old.items size) }
+        ensures ok { OnOk result (self.new ≡ record self.old { items = resized self.old.items size start.now }) }
+        ensures err { OnErr result (self.new ≡ self.old) }
+        ensures faults { RefusedBy (resize_fault self.old size) result }
+    {
+        if self.fixed {
+            return Err(ThingFault::Run(RunFault::ReadOnly));
+        }
+        if size < 0 {
+            return Err(ThingFault::Run(RunFault::OutOfRange));
+        }
+        if size > MAX_ITEMS as i64 {
+            return Err(ThingFault::Run(RunFault::TooLong));
+        }
+        let size = size as usize;
+        if size <= self.items.len() {
+            return self.truncate(size as u32);
+        }
+        let alloc = *self.items.allocator();
+        let mut more = copies(alloc, start, size - self.items.len())?;
+        match self.items.append(&mut more) {
+            Ok(()) => Ok(more),
+            Err(_) => Err(ThingFault::NoMemory),
+        }
+    }
+
+    /// The elements once more, without their array.
+    pub fn share_items(&self, alloc: Global) -> Result<Vec<Value>, NoMemory>
+        ensures { IfOk result (λ all. all.items ≡ self.now.items) }
+    {
+        shared(alloc, self.items.as_slice())
+    }
+
     /// A new array of the same type with the elements from place `from` on and before place `to`, both clamped.
     pub fn slice(&self, alloc: Global, from: i64, to: i64) -> Result<TypedArray, ThingFault>
         ensures made { IfOk result (λ a. a ≡ record { element = self.now.element; fixed = false; items = slice_range self.now.items (spec.clamped from (length self.now.items)) (spec.clamped to (length self.now.items)) }) }
@@ -203,6 +315,17 @@ impl TypedArray {
             fixed: false,
         })
     }
+}
+
+/// The value so many times.
+fn copies(alloc: Global, v: &Value, count: usize) -> Result<Vec<Value>, NoMemory>
+    ensures { IfOk result (λ all. all.items ≡ replicate count v.now) }
+{
+    let mut all = Vec::with_capacity(alloc, count)?;
+    for _ in 0..count {
+        all.push(v.share()?)?;
+    }
+    Ok(all)
 }
 
 /// The same values once more.

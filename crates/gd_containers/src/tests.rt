@@ -1,4 +1,4 @@
-use crate::{OrderedDict, ThingFault, TypedArray, key_of};
+use crate::{OnHeap, OrderedDict, ThingFault, TypedArray, key_of};
 use gd_model::{Key, RunFault, Ty, Value};
 use gd_syntax::Text;
 use std::alloc::Global;
@@ -134,4 +134,61 @@ fn an_int_is_a_key(rt: HostRuntime) -> Result<(), Fail> {
     let key = key_of(&Value::Int(1))?;
     assert!(rt; matches!(key, Key::Int(1)));
     Ok(())
+}
+
+#[test]
+fn an_array_is_written_in_place(rt: HostRuntime) -> Result<(), Fail> {
+    let alloc = rt.alloc();
+    let mut array = array_of(alloc, &[1, 2, 3])?;
+    array.reserve(2)?;
+    let more = array_of(alloc, &[4, 5])?.share_items(alloc)?;
+    array.extend(more, true)?;
+    assert!(rt; holds(&array, &[1, 2, 3, 4, 5]));
+    array.reverse()?;
+    let cut = array.truncate(3)?;
+    assert!(rt; are_ints(cut.as_slice(), &[2, 1]));
+    assert!(rt; holds(&array, &[5, 4, 3]));
+    let cut = array.resize(4, &Value::Int(7))?;
+    assert!(rt; cut.is_empty());
+    assert!(rt; holds(&array, &[5, 4, 3, 7]));
+    let cut = array.resize(1, &Value::Nil)?;
+    assert!(rt; are_ints(cut.as_slice(), &[4, 3, 7]));
+    let old = array.fill(&Value::Int(9), true)?;
+    assert!(rt; are_ints(old.as_slice(), &[5]));
+    assert!(rt; holds(&array, &[9]));
+    Ok(())
+}
+
+#[test]
+fn a_write_in_place_is_refused(rt: HostRuntime) -> Result<(), Fail> {
+    let mut array = array_of(rt.alloc(), &[1, 2])?;
+    let below = array.resize(-1, &Value::Nil);
+    assert!(rt; matches!(below, Err(ThingFault::Run(RunFault::OutOfRange))));
+    let long = array.resize(16_777_217, &Value::Nil);
+    assert!(rt; matches!(long, Err(ThingFault::Run(RunFault::TooLong))));
+    let unfit = array.fill(&Value::Nil, false);
+    assert!(rt; matches!(unfit, Err(ThingFault::Run(RunFault::ValueOfAnotherType))));
+    array.fix();
+    assert!(rt; matches!(array.reverse(), Err(ThingFault::Run(RunFault::ReadOnly))));
+    assert!(rt; matches!(array.truncate(0), Err(ThingFault::Run(RunFault::ReadOnly))));
+    assert!(rt; holds(&array, &[1, 2]));
+    Ok(())
+}
+
+#[test]
+fn a_dictionary_on_the_heap_is_written(rt: HostRuntime) -> Result<(), Fail> {
+    let alloc = rt.alloc();
+    let mut dict = OnHeap::new(alloc, dict_of(alloc, &[("a", 1)])?)?;
+    dict.get_mut().put(word(alloc, "b")?, Value::Int(2), true)?;
+    assert_eq!(rt; dict.get().size(), 2);
+    for ((_, value), n) in dict.into_inner().iter().zip([1, 2]) {
+        assert!(rt; is_int(value, n));
+    }
+    Ok(())
+}
+
+#[test]
+fn things_are_small(rt: HostRuntime) {
+    assert!(rt; size_of::<TypedArray>() <= 56);
+    assert_eq!(rt; size_of::<OnHeap<OrderedDict>>(), 8);
 }

@@ -1,7 +1,5 @@
 //! All connections of a run.
 ghost use Rattle.std.specs.Prelude.{◌≡◌, ◌++◌, [], ◌∷◌, ℕ, List, pos, nat_eq, IfOk, OnErr, OnOk, if◌then◌else◌};
-ghost use Rattle.std.specs.Ordering.{int_eq};
-ghost use Rattle.gd_signals.specs.declared.connection.Connection.{Connection as TheConnection};
 ghost use Rattle.gd_signals.specs.Connections.{links, of_emitter, is_linked, may_connect, connected, without, changed_at, forgotten};
 
 use crate::connection::Connection;

@@ -1,7 +1,6 @@
-use Rattle.std.proofs.Common.{◌≡◌, List, [], ◌∷◌, ◌++◌, map, refl, sym, ap, subst, arith, IsSome}
+use Rattle.std.proofs.Common.{◌≡◌, List, [], ◌∷◌, ◌++◌, map, refl, sym, ap, subst, arith}
 use Rattle.std.proofs.lemmas.List.Elements.{All-head}
 use Rattle.slot_arena.specs.declared.handle.Handle.{Handle}
-use Rattle.slot_arena.specs.Slots.{find_at}
 use Rattle.gd_holding.specs.Handles.{value_handle}
 use Rattle.gd_holding.specs.Holding.{AreCounted, IsHeld, filled}
 use Rattle.counted_heap.specs.declared.thing.Thing.{Thing}

@@ -1,6 +1,5 @@
 use Rattle.std.proofs.Common.{◌≡◌, ◌++◌, map, drop}
 use Rattle.std.specs.Prelude.{filter}
-use Rattle.gd_model.specs.declared.value.Target.{Target}
 use Rattle.gd_signals.specs.Connections.{is_of}
 use Rattle.gd_signals.specs.declared.connection.Connection.{Connection}
 use Rattle.gd_signals.proofs.lists.targets_of.Given as goal

@@ -1,4 +1,4 @@
-use Rattle.std.proofs.Common.{◌≡◌, ℕ, ◌+◌, ◌-◌, length, refl, ap, arith}
+use Rattle.std.proofs.Common.{◌+◌, ◌-◌, length, refl, ap, arith}
 use Rattle.gd_holding.specs.Holding.{filled}
 use Rattle.counted_heap.proofs.Holders.{held_next}
 use Rattle.counted_heap.proofs.Next.{can_settle_next, takes_next}

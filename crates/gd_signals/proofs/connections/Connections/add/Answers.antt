@@ -1,4 +1,4 @@
-use Rattle.std.proofs.Common.{◌≡◌, List, [], ◌∷◌, ◌++◌, cond, nat_eq, None, Some, refl, sym, ap, ◌∙◌, is_some}
+use Rattle.std.proofs.Common.{List, [], ◌∷◌, ◌++◌, cond, nat_eq, None, Some, sym, ap, ◌∙◌, is_some}
 use Rattle.std.specs.HashMap.{get}
 use Rattle.gd_signals.specs.Connections.{of_emitter}
 use Rattle.gd_signals.specs.declared.connection.Connection.{Connection}

@@ -1,7 +1,7 @@
-use Rattle.std.proofs.Common.{◌≡◌, List, [], ◌∷◌, ◌++◌, true, Bool, eqb, of_z, w64, pos, refl, sym, ap, ◌∙◌, rules}
+use Rattle.std.proofs.Common.{◌≡◌, [], ◌∷◌, ◌++◌, true, Bool, eqb, of_z, w64, pos, sym, ap, ◌∙◌, rules}
 use Rattle.std.specs.Ordering.{int_eq}
 use Rattle.std.proofs.lemmas.Bool.{cond-true}
-use Rattle.gd_signals.specs.Connections.{Link, links, may_connect, connected}
+use Rattle.gd_signals.specs.Connections.{links, may_connect, connected}
 use Rattle.gd_signals.proofs.Changes.{links_added}
 use Rattle.gd_signals.proofs.connections.Connections.connect.Goals as goal
 

@@ -1,8 +1,6 @@
-use Rattle.std.proofs.Common.{◌≡◌, ◌&&◌, List, [], map, option_map, refl, not, cond, nat_eq, None, Some, is_some, sym, ap, ◌∙◌}
+use Rattle.std.proofs.Common.{[], map, option_map, refl, not, Some, is_some, sym, ap, ◌∙◌}
 use Rattle.std.specs.Prelude.{filter, unwrap_or}
-use Rattle.std.specs.Str.{bytes_eq}
-use Rattle.std.proofs.lemmas.Bool.{eqb-true}
-use Rattle.gd_signals.specs.Connections.{is_between, of_emitter, links_of, links, without, changed_at}
+use Rattle.gd_signals.specs.Connections.{is_between, of_emitter, links, without, changed_at}
 use Rattle.gd_signals.proofs.Changes.{changed, links_dropped, unlinked, seen}
 use Rattle.gd_signals.proofs.connections.Connections.disconnect.Goals as goal
 use Rattle.gd_signals.proofs.connections.Connections.disconnect.Goals.{in-Some, in_default}

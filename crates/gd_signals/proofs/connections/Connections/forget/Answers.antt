@@ -1,5 +1,5 @@
-use Rattle.std.proofs.Common.{◌≡◌, [], cond, nat_eq, None, ap, ◌∙◌}
-use Rattle.gd_signals.specs.Connections.{of_emitter, links_of, links}
+use Rattle.std.proofs.Common.{[], cond, nat_eq, None, ap, ◌∙◌}
+use Rattle.gd_signals.specs.Connections.{links_of, links}
 use Rattle.gd_signals.proofs.Changes.{written, through}
 use Rattle.gd_signals.proofs.connections.Connections.forget.Goals as goal
 

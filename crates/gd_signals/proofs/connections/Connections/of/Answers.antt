@@ -1,4 +1,4 @@
-use Rattle.std.proofs.Common.{◌≡◌, [], option_map, sym, ap, ◌∙◌}
+use Rattle.std.proofs.Common.{[], option_map, sym, ap, ◌∙◌}
 use Rattle.std.specs.Prelude.{unwrap_or}
 use Rattle.gd_signals.specs.Connections.{of_emitter}
 use Rattle.gd_signals.proofs.Changes.{seen}
