@@ -4,7 +4,7 @@ use Rattle.std.specs.List.{count_by}
 use Rattle.std.proofs.lemmas.Bool.{true≢false}
 use Rattle.std.proofs.lemmas.List.Sums.{sum_by-cons}
 use Rattle.gd_members.specs.declared.Item.{Item}
-use Rattle.cycle_resolver.specs.Order.{same_item, times}
+use Rattle.cycle_resolver.specs.Order.{times}
 use Rattle.cycle_resolver.proofs.Times.{same-weight, same_item-or-not, times-cons}
 
 pub or-true : (b : Bool) → (b || true) ≡ true

@@ -1,5 +1,5 @@
 -- The items of a table meet the conditions of `order`.
-use Rattle.std.proofs.Common.{◌≡◌, ◌∙◌, ℕ, ◌+◌, ◌<◌, ◌≤◌, inl, inr, Bool, true, false, cond, List, [], ◌∷◌, ◌++◌, length, map, take, take_all, refl, sym, ap, subst, arith, add-one}
+use Rattle.std.proofs.Common.{◌≡◌, ◌∙◌, ℕ, ◌+◌, ◌<◌, ◌≤◌, inl, inr, Bool, true, false, cond, List, [], ◌∷◌, ◌++◌, length, map, take, take_all, refl, sym, ap, subst, arith}
 use Prim.Native.Nat.{zero, suc}
 use Rattle.std.specs.Prelude.{Option, Some, None, Vec, slice_get, slice_index_or}
 use Rattle.std.specs.Option.{option_map_or}

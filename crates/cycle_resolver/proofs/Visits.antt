@@ -1,14 +1,11 @@
 -- What a visit and a set tell of a step.
-use Rattle.std.proofs.Common.{◌≡◌, ◌∙◌, ◌||◌, Bool, true, false, not, cond, List, [], ◌∷◌, ◌++◌, append_assoc, Result, refl, subst, sym, ap, rules}
+use Rattle.std.proofs.Common.{◌≡◌, ◌∙◌, ◌||◌, Bool, true, false, not, cond, List, [], ◌∷◌, ◌++◌, append_assoc, Result, refl, subst, ap}
 use Rattle.std.specs.Prelude.{OnOk}
 use Rattle.std.specs.Bool.{OnFalse}
 use Rattle.std.specs.declared.result.Result.TheVariants.{Ok, Err}
-use Rattle.std.specs.List.{All, Contains}
-use Rattle.std.specs.HashSet.{HashSet, IsUnchanged, contains_by, Updates}
 use Rattle.no_memory.specs.declared.NoMemory.{NoMemory}
 use Rattle.gd_members.specs.declared.Item.{Item}
 use Rattle.cycle_resolver.specs.declared.unfold.Visit.{Visit}
-use Rattle.cycle_resolver.specs.declared.unfold.Visit.TheVariants.{Typed, Needs, Cyclic}
 use Rattle.cycle_resolver.specs.declared.walk.Walk.{Walk}
 use Rattle.cycle_resolver.specs.Order.{same_item}
 use Rattle.cycle_resolver.specs.Unfold.{IsCause, Settled, after_visit}

@@ -1,12 +1,12 @@
 -- What holds of a walk all the time, and that each step keeps it.
-use Rattle.std.proofs.Common.{◌≡◌, ◌∙◌, ℕ, ◌+◌, ◌*◌, ◌<◌, ◌≤◌, ◌||◌, ◌⊎◌, inl, inr, Bool, true, false, not, cond, List, [], ◌∷◌, ◌++◌, length, take, refl, sym, ap, subst, arith, append_assoc, length-append}
+use Rattle.std.proofs.Common.{◌≡◌, ◌∙◌, ℕ, ◌+◌, ◌*◌, ◌<◌, ◌≤◌, ◌||◌, inl, inr, Bool, true, false, not, cond, List, [], ◌∷◌, ◌++◌, length, take, refl, sym, ap, subst, arith, append_assoc, length-append}
 use Rattle.std.specs.Prelude.{slice_index_or}
 use Rattle.std.specs.List.{All, AllPairs, Contains, count_by}
 use Rattle.std.proofs.Math.ListN.{get_or, get_or-append}
 use Rattle.std.proofs.Math.Seq.{get_or-append_seam, take-append_seam}
 use Rattle.std.proofs.lemmas.Bool.{cases_lt, true≢false}
 use Rattle.std.proofs.lemmas.List.{append-nil, take-append-le, take_all}
-use Rattle.std.proofs.lemmas.List.Elements.{All-contains, All-more, All-nil, All-push, All-same, All-weaker, Contains-append_left, Contains-append_right, Contains-append_cases, Contains-push_cases, Contains-get_or, Contains-push}
+use Rattle.std.proofs.lemmas.List.Elements.{All-contains, All-more, All-nil, All-push, All-same, All-weaker, Contains-append_right, Contains-append_cases, Contains-push_cases, Contains-get_or}
 use Rattle.std.proofs.lemmas.List.Quantifiers.{all_pairs_push}
 use Rattle.gd_members.specs.declared.Item.{Item}
 use Rattle.cycle_resolver.specs.declared.found.Order.{Order}
@@ -16,7 +16,7 @@ use Rattle.cycle_resolver.specs.Order.{AreDistinct, FollowNeeds, Orders, same_it
 use Rattle.cycle_resolver.specs.Unfold.{IsOpen, Settled, give_up_item, type_item}
 use Rattle.cycle_resolver.specs.Walk.{GivesUp, Meets, MeetsNone, Steps, closes, enters, follows, has_met, types}
 use Rattle.cycle_resolver.proofs.Counts.{count-less, count-same, not-or, or-true}
-use Rattle.cycle_resolver.proofs.Times.{found-times, not-found, same_item-apart, same_item-decides, same_item-or-not, same_item-refl, same-weight, times-append, times-cons, times-found, times-push}
+use Rattle.cycle_resolver.proofs.Times.{found-times, not-found, same_item-apart, same_item-decides, same_item-or-not, same_item-refl, same-weight, times-append, times-found, times-push}
 use Rattle.cycle_resolver.proofs.Ways.{Leads-then, LeadsToCycle-need, no-cycle}
 
 -- the conditions of `order`

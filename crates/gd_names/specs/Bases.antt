@@ -4,7 +4,7 @@
 -- rounds: at first every base is RefCounted and no constant holds a class, and each round looks up anew by what the round
 -- before it found.
 use Rattle.std.specs.Prelude.{ℕ, ◌+◌, ◌-◌, Bool, true, false, ◌||◌, ◌&&◌, if◌then◌else◌, ◌==◌, nat_lt, List, [], ◌∷◌, ◌++◌, length, fold, map, Option, None, Some, option_and_then, unwrap_or, slice_get, bytes_eq, codes, sum_by}
-use Rattle.std.specs.List.{list_any}
+use Rattle.std.specs.List.{list_any, position_or_len}
 use Rattle.std.specs.Option.{option_map_or}
 use Prim.Native.Nat.{zero, suc}
 use Rattle.gd_members.specs.declared.Found.{Found}
@@ -235,3 +235,28 @@ numbers number (c ∷ cs) = number ∷ numbers (number + 1) cs
 -- the classes in their order: by files and places, but each behind its base
 abbrev pub class_order : Names → List ℕ
 class_order names = fold (placed (length names.classes + 1) names) [] (numbers 1 names.classes)
+
+-- the number of a class in the class order, from 1
+abbrev pub order_number : Names → ℕ → ℕ
+order_number names number = if number == 0 then 0 else position_or_len (λ n. n == number) (class_order names) + 1
+
+-- what was found, with the number of its class in the class order
+abbrev pub ordered : Names → Found → Found
+ordered names (found.Member id) = found.Member (record { class = order_number names id.class; index = id.index })
+ordered names (found.EnumValue id place) = found.EnumValue (record { class = order_number names id.class; index = id.index }) place
+ordered names (found.Class number) = found.Class (order_number names number)
+ordered names (found.Builtin number) = found.Builtin number
+ordered names found.Missing = found.Missing
+
+-- ---- the class that a constant holds, by its place among the members of its class
+
+abbrev pub is_member : ℕ → Found → Bool
+is_member index (found.Member id) = id.index == index
+is_member index _ = false
+
+abbrev pub held_at : ℕ → List (Declared × Option ℕ) → Option ℕ
+held_at index [] = None
+held_at index (x ∷ xs) = if is_member index x.0.found then x.1 else held_at index xs
+
+abbrev pub constant_class : Names → ℕ → ℕ → Option ℕ
+constant_class names number index = if number == 0 then None else option_and_then (held_at index) (slice_get names.held (number - 1))

@@ -4,7 +4,7 @@ use Rattle.gd_members.specs.declared.Found.TheVariants as found
 use Rattle.gd_rules.specs.declared.rule.Rule.TheVariants as rule
 use Rattle.gd_syntax.specs.declared.pos.Pos.{Pos}
 use Rattle.gd_syntax.specs.declared.tree.decl.BaseName.{BaseName}
-use Rattle.gd_names.specs.Bases.{class_order, find, names_in}
+use Rattle.gd_names.specs.Bases.{class_order, constant_class, find, names_in, ordered}
 use Rattle.gd_names.specs.Paths.{file_named}
 use Rattle.gd_names.specs.Projects.{Class, Declared, Listing, class_name, constant, member_at, variable}
 use Rattle.gd_names.specs.Rules.{faults}
@@ -82,6 +82,10 @@ through_constant = record {
 -- the inner class is number 2 and extends the class of s.gd, number 3
 abbrev pub ExtendsThroughConstant : Type 0
 ExtendsThroughConstant = class_order (names_in through_constant) ≡ 1 ∷ 3 ∷ 2 ∷ []
+
+-- the constant holds the class of s.gd; what is found is told by the class order
+abbrev pub HoldsClass : Type 0
+HoldsClass = (constant_class (names_in through_constant) 1 0 ≡ Some 3) × (ordered (names_in through_constant) (found.Class 3) ≡ found.Class 2)
 
 -- it finds the variable of its base, and the constant and itself in the class around it
 abbrev pub FindsAround : Type 0

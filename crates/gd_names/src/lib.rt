@@ -4,7 +4,7 @@
 //! The definitions stand in specs/. They walk the trees and keep no tables.
 #![tactic(auto)]
 
-ghost use Rattle.gd_names.specs.Trials.{BaseComesFirst, BothInCircle, CircleIsCut, ExtendsThroughConstant, FindsAround, FindsInBase, FindsNoInstance, HidesOne, OnePathNotFound, PathsFound, ThreeFaults};
+ghost use Rattle.gd_names.specs.Trials.{BaseComesFirst, BothInCircle, CircleIsCut, ExtendsThroughConstant, FindsAround, FindsInBase, FindsNoInstance, HidesOne, HoldsClass, OnePathNotFound, PathsFound, ThreeFaults};
 
 /// Small projects have the class order, the look-ups and the faults that they should.
 pub fn trials()
@@ -14,6 +14,7 @@ pub fn trials()
     ensures circle { BothInCircle }
     ensures cut { CircleIsCut }
     ensures constant { ExtendsThroughConstant }
+    ensures holds { HoldsClass }
     ensures around { FindsAround }
     ensures path { OnePathNotFound }
     ensures paths { PathsFound }

@@ -45,3 +45,7 @@ returns-clause-faulty c = refl
 pub returns-clause-instance : goal.returns-clause-instance
 unfolding lib.Utf8.encode
 returns-clause-instance c = refl
+
+pub returns-clause-holds : goal.returns-clause-holds
+unfolding lib.Utf8.encode
+returns-clause-holds c = (refl, refl)

@@ -1,13 +1,12 @@
-use Rattle.std.proofs.Common.{◌≡◌, ◌∙◌, ◌+◌, ◌-◌, take, [], refl, sym, ap, subst, arith, true, false, All, take_all, length, length-append}
+use Rattle.std.proofs.Common.{◌∙◌, ◌+◌, ◌-◌, take, refl, sym, ap, subst, arith}
 use Rattle.std.specs.Prelude.{slice_index_or}
 use Rattle.std.specs.List.{list_any}
 use Rattle.std.proofs.lemmas.List.{append-nil}
 use Rattle.gd_members.specs.declared.Item.{Item}
 use Rattle.cycle_resolver.specs.declared.walk.Walk.{Walk}
 use Rattle.cycle_resolver.specs.Order.{same_item}
-use Rattle.cycle_resolver.specs.Walk.{has_met}
 use Rattle.cycle_resolver.proofs.Visits.{has-not, has-unless, meets-by, on_false}
-use Rattle.cycle_resolver.proofs.Walking.{AreGiven, IsUnderWay, begins, ends-at, popped, same-way, starts-new, starts-none, step-falls, step-kept, step-meets, top-open, under-step, unmet_count}
+use Rattle.cycle_resolver.proofs.Walking.{IsUnderWay, begins, ends-at, popped, same-way, starts-new, starts-none, top-open, under-step}
 use Rattle.cycle_resolver.proofs.resolve.order.Goals as goal
 use Rattle.cycle_resolver.proofs.resolve.order.Goals.{then-branch+in_ok-push, else-branch}
 

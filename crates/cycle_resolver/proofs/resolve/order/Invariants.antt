@@ -1,4 +1,4 @@
-use Rattle.std.proofs.Common.{◌≡◌, ◌+◌, ◌*◌, length, [], List}
+use Rattle.std.proofs.Common.{◌≡◌, ◌+◌, ◌*◌, length, []}
 use Rattle.cycle_resolver.proofs.Walking.{IsUnderWay, unmet_count}
 use Rattle.cycle_resolver.proofs.resolve.order.Given as goal
 

@@ -1,4 +1,4 @@
-use Rattle.std.proofs.Common.{◌≡◌, refl, sym, ◌∙◌, ap, true, false}
+use Rattle.std.proofs.Common.{refl, ◌∙◌, ap}
 use Rattle.std.specs.List.{list_any}
 use Rattle.cycle_resolver.specs.Order.{same_item}
 use Rattle.cycle_resolver.specs.Walk.{enters, closes, follows, has_met}
