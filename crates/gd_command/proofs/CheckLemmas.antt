@@ -1,5 +1,5 @@
 -- What `check` of a project answers, from the paths that it lists and the files that it reads.
-use Rattle.std.proofs.Common.{◌≡◌, ◌≢◌, ◌≤◌, ◌<◌, ◌+◌, ℕ, zero, suc, List, [], ◌∷◌, ◌++◌, length, take, drop, get_or, filter, codes, bytes_eq, false, cond, Option, Some, None, Result, Ok, Err, refl, sym, ap, subst, ◌∙◌, arith, All, IfSome, IfOk, length-append, inl, inr, Vec, slice_get}
+use Rattle.std.proofs.Common.{◌≡◌, ◌≤◌, ◌<◌, ◌+◌, ℕ, zero, suc, List, [], ◌∷◌, ◌++◌, length, take, drop, get_or, filter, codes, bytes_eq, false, cond, Option, Some, None, Result, Ok, Err, refl, sym, ap, subst, ◌∙◌, arith, All, IfSome, IfOk, length-append, inl, inr, Vec}
 use Rattle.std.specs.List.{flat_map}
 use Rattle.std.specs.Ordering.{nat_cmp, is_eq}
 use Rattle.std.specs.declared.cmp.Ordering.TheVariants.{Less}
@@ -32,12 +32,11 @@ use Rattle.gd_lexer.specs.LexFaults.{IsFirstFault}
 use Rattle.gd_lexer.specs.declared.fault.LexFault.{LexFault}
 use Rattle.gd_lexer.specs.declared.fault.LexFault.TheVariants.{Fault}
 use Rattle.gd_grammar.specs.Fault.{StandsAt}
-use Rattle.gd_command.specs.Output.{scripts, sources_of, IsShort, total, FitsLimits, CheckOutput, many_files, long_file, long_project, checked}
+use Rattle.gd_command.specs.Output.{scripts, sources_of, IsShort, total, CheckOutput, many_files, long_file, long_project, checked}
 use Rattle.gd_command.specs.Report.{ReportState, FileFinds, lexical, syntax, nothing, Finds, clean_file, faulty_file, diag_line, report_status}
-use Rattle.gd_command.specs.Answer.{IsAnswer, IsFaultOf}
+use Rattle.gd_command.specs.Answer.{IsAnswer}
 use Rattle.gd_command.specs.Call.{IsReached}
-use Rattle.gd_command.specs.Check.{AreAt, AreRead, AddUp, Stands, Stops, Hinders, bytes_of}
-use Rattle.gd_command.specs.declared.answer.Answer.{Answer}
+use Rattle.gd_command.specs.Check.{AreAt, AreRead, AddUp, Stops, Hinders, bytes_of}
 use Rattle.gd_command.specs.declared.answer.Answer.TheVariants.{Checked}
 use Rattle.gd_command.specs.declared.check.Unread.{Unread}
 use Rattle.gd_command.specs.declared.check.Unread.TheVariants as unread

@@ -1,5 +1,5 @@
 -- What `run` of a project answers, from the paths that it lists and the source that it reads.
-use Rattle.std.proofs.Common.{◌≡◌, ◌≤◌, ◌<◌, ◌*◌, ◌^◌, ℕ, suc, List, [], ◌∷◌, ◌++◌, length, take, filter, nat_eq, codes, decimal, bytes_eq, Bool, true, false, cond, Option, Some, None, refl, sym, ap, subst, ◌∙◌, arith, inl, inr, length-append, All, IfSome, IfOk, Result, Ok, Err}
+use Rattle.std.proofs.Common.{◌≡◌, ◌≤◌, ◌*◌, ℕ, suc, List, [], ◌∷◌, length, take, filter, nat_eq, codes, decimal, bytes_eq, Bool, true, false, cond, Option, Some, None, refl, sym, ap, subst, ◌∙◌, arith, inl, inr, length-append, All, IfSome, IfOk, Result, Ok, Err}
 use Rattle.std.specs.List.{ends_with, flat_map}
 use Rattle.std.proofs.lemmas.Bool.{false≢true, cases_Bool, cases_lt}
 use Rattle.std.proofs.lemmas.List.{take_all, length-take-le}

@@ -1,5 +1,5 @@
 -- What a check finds in the scripts of a project, and the lines that it prints.
-use Rattle.std.specs.Prelude.{◌≡◌, ℕ, List, [], ◌∷◌, ◌++◌, length, codes, decimal, get_or, Option, Some, None}
+use Rattle.std.specs.Prelude.{ℕ, List, [], ◌∷◌, ◌++◌, length, codes, decimal, get_or, Option, Some, None}
 use Rattle.gd_syntax.specs.declared.token.Token.{Token}
 use Rattle.gd_rules.specs.declared.diag.Diag.{Diag}
 use Rattle.gd_rules.specs.declared.rule.Rule.{Rule}

@@ -1,4 +1,3 @@
-use Rattle.std.proofs.Common.{subst, sym, ◌∙◌}
 use Rattle.gd_command.specs.Words.{words_of}
 use Rattle.gd_command.proofs.CallLemmas.{answers-whole, answers-part, answers-nothing, only-usage, only-read_fault, never-write_fault, usage-status}
 use Rattle.gd_command.proofs.top.gd.Goals as goal
