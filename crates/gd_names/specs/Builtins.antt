@@ -25,6 +25,6 @@ abbrev pub first_number : Option ℕ → Option ℕ → Option ℕ
 first_number (Some n) other = Some n
 first_number None other = other
 
--- constants from 82 on, types from 92 on
+-- constants from 1,000 on, types from 1,100 on
 abbrev pub builtin_number : Text → Option ℕ
-builtin_number name = first_number (number_in 0 functions name) (first_number (number_in 82 constants name) (number_in 92 types name))
+builtin_number name = first_number (number_in 0 functions name) (first_number (number_in 1000 constants name) (number_in 1100 types name))
