@@ -13,7 +13,6 @@ pub use laws::{
     fitting_calls_are_taken, known_types_have_no_bad_operands, misfits_are_refused, no_bad_operands,
 };
 pub use value_semantics::{
-    Builtin, BuiltinRow, Given, Kind, Param, Returned, builtin_constant, builtin_named,
-    builtin_numbered, builtin_row, constant_value, is_unary, kind_of, kind_of_type, result_type,
-    takes,
+    Builtin, BuiltinRow, Given, Kind, Param, Returned, builtin_named, builtin_numbered,
+    builtin_row, is_unary, kind_of, kind_of_type, result_type, takes,
 };
