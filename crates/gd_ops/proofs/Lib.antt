@@ -2,4 +2,4 @@ mod Deep
 mod KnownTypes
 mod Misfits
 mod Operands
-mod Whole
+mod GoneThrough

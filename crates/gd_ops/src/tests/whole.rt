@@ -1,6 +1,6 @@
 //! Values of tests whose things are there, told by going to each.
 ghost use Rattle.std.specs.Prelude.{◌≡◌, true};
-ghost use Rattle.gd_model.specs.Whole.{AllWhole, Whole, pair_values};
+ghost use Rattle.gd_model.specs.Whole.{AllWhole, Whole, key_value, pair_values};
 
 use gd_containers::{Look, OrderedDict};
 use gd_model::{Key, Value};
@@ -48,9 +48,25 @@ fn pairs_whole<K: Look>(d: &OrderedDict, look: &K, room: u32) -> bool
         let Some((key, value)) = d.at(i) else {
             return false;
         };
-        if matches!(key, Key::Object(_)) || !is_whole(value, look, room) {
+        if !key_whole(key, look) {
+            return false;
+        }
+        if !is_whole(value, look, room) {
             return false;
         }
     }
     true
+}
+
+/// Whether the key leads to no thing.
+fn key_whole<K: Look>(key: &Key, look: &K) -> bool
+    ensures { result ≡ true → Whole (K.things look.now) (K.names look.now) (key_value key.now) }
+{
+    match key {
+        Key::Object(_) => false,
+        Key::Nil => true,
+        Key::Bool(_) => true,
+        Key::Int(_) => true,
+        Key::Str(_) => true,
+    }
 }

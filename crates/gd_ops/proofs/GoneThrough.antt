@@ -1,5 +1,6 @@
 -- A value is whole where its thing is there, and what lies in that is whole.
 use Rattle.std.proofs.Common.{◌≡◌, ℕ, zero, suc, ◌+◌, ◌<◌, true, List, [], ◌∷◌, ◌++◌, length, take, get_or, slice_get, Option, Some, is_some, option_and_then, ap, sym, subst, ◌∙◌, add-one}
+use Rattle.std.specs.Prelude.{unwrap_or}
 use Rattle.std.specs.List.{AllByRecursion}
 use Rattle.slot_arena.specs.declared.handle.Handle.{Handle}
 use Rattle.gd_model.specs.declared.key.Key.{Key}
@@ -33,3 +34,16 @@ module _ (things : Handle → Option ThingView) (names : Names) where
   more_whole xs i x within e before here n =
       let cut : take (i + 1) xs ≡ take i xs ++ x ∷ [] = ap (λ k. take k xs) (add-one i) ∙ take-suc xs i x within ∙ ap (λ y. take i xs ++ y ∷ []) (sym e) in
       subst (AllByRecursion (WholeFor things names n)) (sym cut) (all_more (WholeFor things names n) (take i xs) x (before n) (here n))
+
+  pairs_more : (ps : List (Key × Value)) (i : ℕ) (k : Key) (x : Value) → slice_get ps i ≡ Some (k, x) → AllWhole things names (pair_values (take i ps)) → Whole things names (key_value k) → Whole things names x → AllWhole things names (pair_values (take (suc i) ps))
+  pairs_more [] i k x e before key here n = cc
+  pairs_more (p ∷ ps) zero k x e before key here n =
+      let is : p ≡ (k, x) = ap (λ (o : Option (Key × Value)). unwrap_or o p) e in
+      (subst (λ (q : Key × Value). WholeFor things names n (key_value q.0)) (sym is) (key n), (subst (λ (q : Key × Value). WholeFor things names n q.1) (sym is) (here n), tt))
+  pairs_more (p ∷ ps) (suc i) k x e before key here n =
+      ((before n).0, ((before n).1.0, pairs_more ps i k x e (λ m. (before m).1.1) key here n))
+
+  -- one more pair is whole
+  pub more_pairs : (ps : List (Key × Value)) (i : ℕ) (k : Key) (x : Value) → slice_get ps i ≡ Some (k, x) → AllWhole things names (pair_values (take i ps)) → Whole things names (key_value k) → Whole things names x → AllWhole things names (pair_values (take (i + 1) ps))
+  more_pairs ps i k x e before key here n =
+      subst (λ j. AllByRecursion (WholeFor things names n) (pair_values (take j ps))) (sym (add-one i)) (pairs_more ps i k x e before key here n)
