@@ -2,4 +2,3 @@ mod Deep
 mod KnownTypes
 mod Misfits
 mod Operands
-mod GoneThrough

@@ -2,8 +2,6 @@
 #![tactic(auto)]
 
 mod laws;
-#[cfg(test)]
-mod tests;
 
 pub use gd_answers::Fresh;
 pub use gd_builtins::call_builtin;
