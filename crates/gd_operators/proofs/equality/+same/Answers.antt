@@ -20,7 +20,7 @@ pub same_arrays-returns-then-size : goal.same_arrays-returns-then-size
 same_arrays-returns-then-size g t c =
     let room : c.args.room ≡ (c.args.room - 1) + 1 = omega arith in
     let ne : ¬ (length c.array_of-x.result.now.items ≡ length c.array_of-y.result.now.items) = λ e. c.if-size.true (c.size.ensures.value ∙ e ∙ sym c.size-2.ensures.value) in
-    ap exact (sym (other_size_arrays (g.K.Look.store c.args.look.now) c.args.h.serial c.args.i.serial c.args.room (c.args.room - 1) _ _ room c.array_of-x.ensures.there c.array_of-y.ensures.there ne))
+    ap exact (sym (other_size_arrays (g.K.Look.store c.args.look.now) c.args.h.serial c.args.i.serial c.args.room (c.args.room - 1) _ _ room c.array_of-x.ensures.value c.array_of-y.ensures.value ne))
 
 pub same_arrays-returns : goal.same_arrays-returns
 same_arrays-returns g t c =
@@ -28,7 +28,7 @@ same_arrays-returns g t c =
     let sizes : length c.array_of-x.result.now.items ≡ length c.array_of-y.result.now.items = sym c.size.ensures.value ∙ c.if-size.false ∙ c.size-2.ensures.value in
     c.same_items.ensures
     ∙ (λ k. exact (same_items (same_by (g.K.Look.store c.args.look.now) (inside (g.K.Look.store c.args.look.now) (c.args.room - 1))) (map datum (c.items.ensures k)) (map datum (c.items-2.ensures k))))
-    ∙ ap exact (sym (same_size_arrays (g.K.Look.store c.args.look.now) c.args.h.serial c.args.i.serial c.args.room (c.args.room - 1) _ _ room c.array_of-x.ensures.there c.array_of-y.ensures.there sizes))
+    ∙ ap exact (sym (same_size_arrays (g.K.Look.store c.args.look.now) c.args.h.serial c.args.i.serial c.args.room (c.args.room - 1) _ _ room c.array_of-x.ensures.value c.array_of-y.ensures.value sizes))
 
 pub same_arrays-same_items-requires : goal.same_arrays-same_items-requires
 same_arrays-same_items-requires g t c κs within =
@@ -40,14 +40,14 @@ pub same_dicts-returns-then-size : goal.same_dicts-returns-then-size
 same_dicts-returns-then-size g t c =
     let room : c.args.room ≡ (c.args.room - 1) + 1 = omega arith in
     let ne : ¬ (length c.dict_of-x.result.now.pairs ≡ length c.dict_of-y.result.now.pairs) = λ e. c.if-size.true (c.size.ensures.value ∙ e ∙ sym c.size-2.ensures.value) in
-    ap exact (sym (other_size_dicts (g.K.Look.store c.args.look.now) c.args.h.serial c.args.i.serial c.args.room (c.args.room - 1) _ _ room c.dict_of-x.ensures.there c.dict_of-y.ensures.there ne))
+    ap exact (sym (other_size_dicts (g.K.Look.store c.args.look.now) c.args.h.serial c.args.i.serial c.args.room (c.args.room - 1) _ _ room c.dict_of-x.ensures.value c.dict_of-y.ensures.value ne))
 
 pub same_dicts-returns : goal.same_dicts-returns
 same_dicts-returns g t c =
     let room : c.args.room ≡ (c.args.room - 1) + 1 = omega arith in
     let sizes : length c.dict_of-x.result.now.pairs ≡ length c.dict_of-y.result.now.pairs = sym c.size.ensures.value ∙ c.if-size.false ∙ c.size-2.ensures.value in
     c.same_pairs.ensures
-    ∙ ap exact (sym (same_size_dicts (g.K.Look.store c.args.look.now) c.args.h.serial c.args.i.serial c.args.room (c.args.room - 1) _ _ room c.dict_of-x.ensures.there c.dict_of-y.ensures.there sizes))
+    ∙ ap exact (sym (same_size_dicts (g.K.Look.store c.args.look.now) c.args.h.serial c.args.i.serial c.args.room (c.args.room - 1) _ _ room c.dict_of-x.ensures.value c.dict_of-y.ensures.value sizes))
 
 pub same_items-same_within-requires : goal.same_items-same_within-requires
 same_items-same_within-requires g t c κs within =

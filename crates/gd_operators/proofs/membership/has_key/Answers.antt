@@ -10,7 +10,7 @@ use Rattle.gd_operators.proofs.membership.has_key.Goals as goal
 
 pub returns : goal.returns
 returns g c =
-    key_there c.args.v.now c.in_ok-key.key c.dict_of.result.now (dict_at (g.K.Look.store c.args.look.now) c.args.h.serial) c.in_ok-key.ensures.faults c.in_ok-key.ensures.meant c.dict_of.ensures.there
+    key_there c.args.v.now c.in_ok-key.key c.dict_of.result.now (dict_at (g.K.Look.store c.args.look.now) c.args.h.serial) c.in_ok-key.ensures.faults c.in_ok-key.ensures.meant c.dict_of.ensures.value
     ∙ ap (λ b. Ok b) (sym (c.is_some.ensures ∙ sym (is_some-copied c.get.result) ∙ ap is_some c.get.ensures))
 
 pub returns-in_err-key : goal.returns-in_err-key

@@ -18,6 +18,6 @@ returns-in-Array g c =
     let S = g.K.Look.store c.args.look.now in
     let N = g.K.Look.names c.args.look.now in
     let F = argument S N in
-    let same = ap (λ (w : Value). arguments S N (datum w)) c.in-Array.is ∙ ap (λ (a : ArrayThing). map F a.items) c.array_of.ensures.there
+    let same = ap (λ (w : Value). arguments S N (datum w)) c.in-Array.is ∙ ap (λ (a : ArrayThing). map F a.items) c.array_of.ensures.value
     ∙ ap (λ (xs : List Value). map F (map datum xs)) (sym c.items.ensures) in
     subst (λ (args : List Arg). Gives (format_gives c.args.pattern.now args) c.format_all.result) (sym same) c.format_all.ensures

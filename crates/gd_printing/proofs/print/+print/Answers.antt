@@ -20,7 +20,7 @@ put_array-returns-in_err-put_items g t c =
     let A = all_forms (codes ", ") (map F (map datum c.items.result.now)) in
     let same = ap (λ xs. codes "[" ++ (all_forms (codes ", ") (map F (map datum xs)) ++ codes "]")) c.items.ensures
     ∙ array_open S N c.args.room (c.args.room - 1) (array_thing c.array_of.result.now) room
-    ∙ ap (λ a. array_form (inside S N c.args.room) a) (sym c.array_of.ensures.there) in
+    ∙ ap (λ a. array_form (inside S N c.args.room) a) (sym c.array_of.ensures.value) in
     let p = err_from_is_err_and c.from_residual-in_err-put_items.result c.from_residual-in_err-put_items.ensures.1 in
     rw (p.1, p.2) (puts_as _ _ c.args.out.now.items c.put_items.new.out.items (Err c.in_err-put_items.field-0.0) same
     (puts_then (codes "[") (A ++ codes "]") c.args.out.now.items c.put.new.out.items c.put_items.new.out.items (Err c.in_err-put_items.field-0.0) c.in_ok-put.ensures
@@ -35,7 +35,7 @@ put_array-returns g t c =
     let A = all_forms (codes ", ") (map F (map datum c.items.result.now)) in
     let same = ap (λ xs. codes "[" ++ (all_forms (codes ", ") (map F (map datum xs)) ++ codes "]")) c.items.ensures
     ∙ array_open S N c.args.room (c.args.room - 1) (array_thing c.array_of.result.now) room
-    ∙ ap (λ a. array_form (inside S N c.args.room) a) (sym c.array_of.ensures.there) in
+    ∙ ap (λ a. array_form (inside S N c.args.room) a) (sym c.array_of.ensures.value) in
     puts_as _ _ c.args.out.now.items c.put-2.new.out.items c.put-2.result same
     (puts_then (codes "[") (A ++ codes "]") c.args.out.now.items c.put.new.out.items c.put-2.new.out.items c.put-2.result c.in_ok-put.ensures
     (puts_then A (codes "]") c.put.new.out.items c.put_items.new.out.items c.put-2.new.out.items c.put-2.result c.in_ok-put_items.ensures c.put-2.ensures))
@@ -53,7 +53,7 @@ put_dict-returns-then-size-eq0 g t c =
     let room : c.args.room ≡ (c.args.room - 1) + 1 = omega arith in
     let D = dict_thing c.dict_of-dict.result.now in
     let none : length D.pairs ≡ 0 = length-map c.dict_of-dict.result.now.pairs pair_datum ∙ sym c.size.ensures.value ∙ c.if-size-eq0.true in
-    puts_as _ _ c.args.out.now.items c.put_word-then-size-eq0.new.out.items c.put_word-then-size-eq0.result (dict_empty S N c.args.room (c.args.room - 1) D room none ∙ ap (λ d. dict_form (inside S N c.args.room) d) (sym c.dict_of-dict.ensures.there)) c.put_word-then-size-eq0.ensures
+    puts_as _ _ c.args.out.now.items c.put_word-then-size-eq0.new.out.items c.put_word-then-size-eq0.result (dict_empty S N c.args.room (c.args.room - 1) D room none ∙ ap (λ d. dict_form (inside S N c.args.room) d) (sym c.dict_of-dict.ensures.value)) c.put_word-then-size-eq0.ensures
 
 pub put_dict-returns-in_err-put_pairs : goal.put_dict-returns-in_err-put_pairs
 put_dict-returns-in_err-put_pairs g t c =
@@ -63,7 +63,7 @@ put_dict-returns-in_err-put_pairs g t c =
     let D = dict_thing c.dict_of-dict.result.now in
     let some : ¬ (length D.pairs ≡ 0) = λ e. c.if-size-eq0.false (c.size.ensures.value ∙ sym (length-map c.dict_of-dict.result.now.pairs pair_datum) ∙ e) in
     let A = all_forms (codes ", ") (map (pair_form (form_by S N (inside S N (c.args.room - 1)))) D.pairs) in
-    let same = dict_open S N c.args.room (c.args.room - 1) D room some ∙ ap (λ d. dict_form (inside S N c.args.room) d) (sym c.dict_of-dict.ensures.there) in
+    let same = dict_open S N c.args.room (c.args.room - 1) D room some ∙ ap (λ d. dict_form (inside S N c.args.room) d) (sym c.dict_of-dict.ensures.value) in
     let p = err_from_is_err_and c.from_residual-in_err-put_pairs.result c.from_residual-in_err-put_pairs.ensures.1 in
     rw (p.1, p.2) (puts_as _ _ c.args.out.now.items c.put_pairs.new.out.items (Err c.in_err-put_pairs.field-0.0) same
     (puts_then (codes "{ ") (A ++ codes " }") c.args.out.now.items c.put_word-2.new.out.items c.put_pairs.new.out.items (Err c.in_err-put_pairs.field-0.0) c.in_ok-put_word.ensures
@@ -77,7 +77,7 @@ put_dict-returns g t c =
     let D = dict_thing c.dict_of-dict.result.now in
     let some : ¬ (length D.pairs ≡ 0) = λ e. c.if-size-eq0.false (c.size.ensures.value ∙ sym (length-map c.dict_of-dict.result.now.pairs pair_datum) ∙ e) in
     let A = all_forms (codes ", ") (map (pair_form (form_by S N (inside S N (c.args.room - 1)))) D.pairs) in
-    let same = dict_open S N c.args.room (c.args.room - 1) D room some ∙ ap (λ d. dict_form (inside S N c.args.room) d) (sym c.dict_of-dict.ensures.there) in
+    let same = dict_open S N c.args.room (c.args.room - 1) D room some ∙ ap (λ d. dict_form (inside S N c.args.room) d) (sym c.dict_of-dict.ensures.value) in
     puts_as _ _ c.args.out.now.items c.put_word-3.new.out.items c.put_word-3.result same
     (puts_then (codes "{ ") (A ++ codes " }") c.args.out.now.items c.put_word-2.new.out.items c.put_word-3.new.out.items c.put_word-3.result c.in_ok-put_word.ensures
     (puts_then A (codes " }") c.put_word-2.new.out.items c.put_pairs.new.out.items c.put_word-3.new.out.items c.put_word-3.result c.in_ok-put_pairs.ensures c.put_word-3.ensures))
