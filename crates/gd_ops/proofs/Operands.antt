@@ -11,7 +11,7 @@ use Rattle.gd_model.specs.Same.{is_key}
 use Rattle.gd_model.specs.Store.{Store, Names, ArrayThing, DictThing, array_at, dict_at, value_at}
 use Rattle.gd_text.specs.declared.formatting.Arg.{Arg}
 use Rattle.gd_text.specs.declared.formatting.Arg.TheVariants as arg
-use Rattle.gd_text.specs.Formatted.{formatted}
+use Rattle.gd_text.specs.Format.{formatted}
 use Rattle.value_semantics.specs.declared.kind.Kind.TheVariants as k
 use Rattle.value_semantics.specs.Answer.{in_form}
 use Rattle.value_semantics.specs.Equality.{same}
