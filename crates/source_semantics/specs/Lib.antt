@@ -1,0 +1,14 @@
+pub mod Assignments
+pub mod Attributes
+pub mod Control
+pub mod Expressions
+pub mod Functions
+pub mod Matching
+pub mod Meaning
+pub mod Methods
+pub mod Places
+pub mod Project
+pub mod Running
+pub mod Signals
+pub mod State
+pub mod Statements

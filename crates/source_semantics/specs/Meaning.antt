@@ -1,0 +1,78 @@
+-- What an evaluation is given: the project, the running function, and what entering a function means with fewer turns.
+use Rattle.std.specs.Prelude.{ℕ, List, Option, None, Some, map}
+use Rattle.gd_model.specs.Datum.{Datum}
+use Rattle.gd_model.specs.declared.ty.Ty.{Ty}
+use Rattle.gd_syntax.specs.declared.pos.Pos.{Pos}
+use Rattle.gd_syntax.specs.declared.tree.expr.Expr.{Expr}
+use Rattle.gd_syntax.specs.declared.tree.decl.FuncDecl.{FuncDecl}
+use Rattle.gd_syntax.specs.declared.tree.stmt.Stmt.{Stmt}
+use Rattle.gd_syntax.specs.declared.tree.stmt.VarDecl.{VarDecl, out-VarDecl}
+use Rattle.source_semantics.specs.Project.{Project, Text}
+use Rattle.source_semantics.specs.State.{Run, Went}
+
+-- the running function: its receiver, the class that it stands in, how many calls stand, the type that it returns, and the
+-- variable whose bare name is the variable itself, in an accessor
+pub record Frame : Type 0 where
+  pub receiver : Option Datum
+  pub class : ℕ
+  pub depth : ℕ
+  pub returns : Ty
+  pub direct : Option Text
+
+-- a parameter: its name with the place, its type, and its default value with the place of its `=`
+pub record Parameter : Type 0 where
+  pub name : Text
+  pub at : Pos
+  pub takes : Ty
+  pub default : Option (Pos × Expr)
+
+-- a function with its body, or an accessor with one
+pub record Code : Type 0 where
+  pub class : ℕ
+  pub parameters : List Parameter
+  pub returns : Ty
+  pub body : List Stmt
+  pub direct : Option Text
+
+abbrev pub default_of : Option Pos → Option Expr → Option (Pos × Expr)
+default_of (Some equals) (Some value) = Some (equals, value)
+default_of _ _ = None
+
+abbrev pub parameter_of : Project → VarDecl → Parameter
+parameter_of p v = record {
+  name = (out-VarDecl v).name;
+  at = (out-VarDecl v).pos;
+  takes = p.place_type (out-VarDecl v).pos;
+  default = default_of (out-VarDecl v).equals (out-VarDecl v).value;
+}
+
+-- a function as it is called; as an accessor of a variable it has that variable's bare name for the variable itself
+abbrev pub code_of : Project → Option Text → ℕ × FuncDecl → Code
+code_of p direct f = record {
+  class = f.0;
+  parameters = map (parameter_of p) f.1.params;
+  returns = p.returns f.1.pos;
+  body = f.1.body;
+  direct = direct;
+}
+
+-- Entering a function, when the arguments are tested: what it is entered on and with, how many calls stand, the place of the
+-- call, and what is held beside receiver and arguments. It gives the function's result.
+pub record Entry : Type 0 where
+  pub code : Code
+  pub receiver : Option Datum
+  pub arguments : List Datum
+  pub depth : ℕ
+  pub pos : Pos
+
+-- Making an object of a class: the arguments, how many calls stand, and the place of `new`.
+pub record Making : Type 0 where
+  pub class : ℕ
+  pub arguments : List Datum
+  pub depth : ℕ
+  pub pos : Pos
+
+-- what entering and making mean, over the values that are held meanwhile
+pub record Meaning : Type 0 where
+  pub enter : Entry → List Datum → Run → Went Datum
+  pub make : Making → List Datum → Run → Went Datum
