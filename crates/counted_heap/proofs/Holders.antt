@@ -381,17 +381,17 @@ module _ {T : Type 0} where
       ap (λ (y : Entry T). y ∷ written_at xs h w) (cond-false (is_at h x) (record x { value = w }) x none.0) ∙ ap (λ (l : List (Entry T)). x ∷ l) (written-none xs h w none.1)
 
   -- serial numbers and counts stay
-  same_counts : (R : ℕ → ℕ → Type 0) (es : List (Entry T)) (h : Handle) (w : T) → AllByRecursion (λ (e : Entry T). R e.count e.serial) es → AllByRecursion (λ (e : Entry T). R e.count e.serial) (written_at es h w)
+  pub same_counts : (R : ℕ → ℕ → Type 0) (es : List (Entry T)) (h : Handle) (w : T) → AllByRecursion (λ (e : Entry T). R e.count e.serial) es → AllByRecursion (λ (e : Entry T). R e.count e.serial) (written_at es h w)
   same_counts R [] h w all = tt
   same_counts R (x ∷ xs) h w all =
       (cond_both (is_at h x) (record x { value = w }) x (λ y. R y.count y.serial) (λ _. all.0) (λ _. all.0), same_counts R xs h w all.1)
 
-  written_values : (Q : T → Type 0) (es : List (Entry T)) (h : Handle) (w : T) → Q w → AllByRecursion (λ (e : Entry T). Q e.value) es → AllByRecursion (λ (e : Entry T). Q e.value) (written_at es h w)
+  pub written_values : (Q : T → Type 0) (es : List (Entry T)) (h : Handle) (w : T) → Q w → AllByRecursion (λ (e : Entry T). Q e.value) es → AllByRecursion (λ (e : Entry T). Q e.value) (written_at es h w)
   written_values Q [] h w this all = tt
   written_values Q (x ∷ xs) h w this all =
       (cond_both (is_at h x) (record x { value = w }) x (λ y. Q y.value) (λ _. this) (λ _. all.0), written_values Q xs h w this all.1)
 
-  alive_written : (es : List (Entry T)) (h other : Handle) (w : T) → IsSome (find_at es other) → IsSome (find_at (written_at es h w) other)
+  pub alive_written : (es : List (Entry T)) (h other : Handle) (w : T) → IsSome (find_at es other) → IsSome (find_at (written_at es h w) other)
   alive_written [] h other w alive = alive
   alive_written (x ∷ xs) h other w alive =
       let x' = cond (is_at h x) (record x { value = w }) x in
@@ -404,7 +404,7 @@ module _ {T : Type 0} where
       ]
 
 module _ {T : Type 0} (handles : T → List Handle) where
-  held_in-written : (n : ℕ) (es : List (Entry T)) (h : Handle) (e : Entry T) (w : T) (s : ℕ) → RisesFrom n (serials es) → find_at es h ≡ Some e → held_in handles (written_at es h w) s + occurrences s (handles e.value) ≡ held_in handles es s + occurrences s (handles w)
+  pub held_in-written : (n : ℕ) (es : List (Entry T)) (h : Handle) (e : Entry T) (w : T) (s : ℕ) → RisesFrom n (serials es) → find_at es h ≡ Some e → held_in handles (written_at es h w) s + occurrences s (handles e.value) ≡ held_in handles es s + occurrences s (handles w)
   held_in-written n [] h e w s rises found = absurd (cc)
   held_in-written n (x ∷ xs) h e w s rises found =
       let names = λ (y : Entry T). occurrences s (handles y.value) in

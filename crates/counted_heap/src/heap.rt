@@ -124,6 +124,14 @@ impl<T: Holds, S: Slots<T>> Heap<T, S> {
         let _made = self.made;
     }
 
+    /// A law: the things stand by rising serial number, so no two of them have one. It does nothing when it runs.
+    pub fn rising_law(&self)
+        ensures { RisesFrom 0 (serials self.now.things) }
+    {
+        // The read opens the heap, whose things have rising serial numbers.
+        let _made = self.made;
+    }
+
     /// The handles of the things that are alive, by rising serial number.
     pub fn entries(&self, alloc: Global) -> Result<Vec<Handle>, NoMemory>
         ensures all { IfOk result (λ v. IsPermutation (map handle_of self.now.things) v.items) }
