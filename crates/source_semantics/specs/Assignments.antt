@@ -1,5 +1,6 @@
 -- Assignments: the parts of the target from left to right, in a compound one the old value, then the right side, and the write.
-use Rattle.std.specs.Prelude.{ℕ, Bool, false, List, ◌∷◌, Option, None, Some, bytes_eq, if◌then◌else◌}
+use Rattle.std.specs.Prelude.{ℕ, List, ◌∷◌, Option, None, Some, bytes_eq, if◌then◌else◌}
+use Rattle.std.specs.List.{list_any}
 use Rattle.gd_members.specs.declared.Found.{Found}
 use Rattle.gd_members.specs.declared.Found.TheVariants as found
 use Rattle.gd_model.specs.Datum.{Datum}
@@ -12,7 +13,7 @@ use Rattle.gd_syntax.specs.declared.tree.expr.ExprKind.TheOpen.{ExprKind-F}
 use Rattle.gd_syntax.specs.declared.tree.stmt.VarDecl.{out-VarDecl}
 use Rattle.assignability.specs.Fits.{fits}
 use Rattle.source_semantics.specs.Attributes.{read_attribute, read_index, store_variable, write_attribute, write_index, write_static, write_variable}
-use Rattle.source_semantics.specs.Expressions.{Context, attribute_of, bare_name, class_meant, evaluate, member_at, operate, self, self_serial}
+use Rattle.source_semantics.specs.Expressions.{Context, bare_name, class_meant, evaluate, member_at, of_class, operate, self, self_serial}
 use Rattle.source_semantics.specs.Places.{Layer, layer, place}
 use Rattle.source_semantics.specs.Project.{Member, Text, Variable, bases}
 use Rattle.source_semantics.specs.State.{Local, Run, Went, local, set_local, settled, store, tested, then_do, went}
@@ -23,17 +24,13 @@ test_known c at target v r = tested at (fits (bases c.project) (store r) (c.proj
 
 -- ---- bare names: the whole write stands at the operator
 
-abbrev pub is_direct : Option Text → Text → Bool
-is_direct None name = false
-is_direct (Some direct) name = bytes_eq direct name
-
 abbrev pub write_member : Context → Pos → List Datum → Run → Datum → Option Member → Went (Unit {0})
 write_member c at hand r v None = went tt r
 write_member c at hand r v (Some m) = in_kind m.class m.kind
   where
     of_instance : Variable → Went (Unit {0})
     of_instance x =
-        if is_direct c.frame.direct (out-VarDecl x.decl).name then store_variable c.project at hand r (self_serial (self c.frame)) x v
+        if list_any (bytes_eq (out-VarDecl x.decl).name) c.frame.direct then store_variable c.project at hand r (self_serial (self c.frame)) x v
         else write_variable c.project c.meaning c.frame at hand r (self_serial (self c.frame)) x v
 
     of_variable : Variable → Went (Unit {0})
@@ -78,7 +75,8 @@ assigned c at target hand op value r read write =
 
 abbrev pub assign_attribute : Context → Pos → Expr → Pos → List Datum → Run → Option Operator → Expr → Expr → Text → Option ℕ → Went (Unit {0})
 assign_attribute c at target pos hand r op value x name (Some class) =
-    assigned c at target hand op value r (attribute_of c (evaluate c) pos hand r x name (Some class)) (λ v r. write_global c pos hand r v (c.project.found pos))
+    then_do (evaluate c hand r x) (λ _ r.
+    assigned c at target hand op value r (of_class c pos hand r) (λ v r. write_global c pos hand r v (c.project.found pos)))
 assign_attribute c at target pos hand r op value x name None =
     then_do (evaluate c hand r x) (λ base r.
     assigned c at target (base ∷ hand) op value r

@@ -34,7 +34,7 @@ values_of r s = values_behind (store r s)
 -- ---- accessors
 
 abbrev pub empty_code : ℕ → Text → Ty → Code
-empty_code class direct returns = record { class = class; parameters = []; returns = returns; body = []; direct = Some direct }
+empty_code class direct returns = record { class = class; parameters = []; returns = returns; body = []; direct = direct ∷ [] }
 
 abbrev pub named_code : Project → Variable → Option Code → Code
 named_code p v found = unwrap_or found (empty_code v.class (name_of v) (p.place_type (out-VarDecl v.decl).pos))
@@ -43,8 +43,8 @@ named_code p v found = unwrap_or found (empty_code v.class (name_of v) (p.place_
 -- is the variable itself
 abbrev pub accessor_code : Project → Variable → Ty → (Text → Pos → List Parameter) → Accessor → Code
 accessor_code p v returns parameters x = elim (out-Accessor x) as (λ _. Code) [
-  | Accessor-F.Named name pos ↦ named_code p v (option_and_then (λ f. Some (code_of p (Some (name_of v)) f)) (own_function p v.class name))
-  | Accessor-F.Body parameter body pos tokens ↦ record { class = v.class; parameters = parameters (unwrap_or parameter []) pos; returns = returns; body = body; direct = Some (name_of v) }
+  | Accessor-F.Named name pos ↦ named_code p v (option_and_then (λ f. Some (code_of p f)) (own_function p v.class name))
+  | Accessor-F.Body parameter body pos tokens ↦ record { class = v.class; parameters = parameters (unwrap_or parameter []) pos; returns = returns; body = body; direct = name_of v ∷ [] }
 ]
 
 abbrev pub type_of : Project → Variable → Ty

@@ -1,13 +1,13 @@
 -- The value of an expression. Parts are evaluated from left to right; what is computed is held until the operation that uses it has
 -- ended, and its result is held before what it used is given up.
 use Rattle.std.specs.Prelude.{ℕ, ℤ, zero, suc, Bool, true, false, not, List, [], ◌∷◌, length, slice_get, unwrap_or, Option, None, Some, option_and_then, bytes_eq, codes, if◌then◌else◌, Result, Ok, Err}
+use Rattle.std.specs.List.{list_any}
 use Rattle.gd_members.specs.declared.Found.{Found}
 use Rattle.gd_members.specs.declared.Found.TheVariants as found
 use Rattle.gd_members.specs.declared.MemberId.{MemberId}
 use Rattle.gd_model.specs.Datum as d
 use Rattle.gd_model.specs.Datum.{Datum, null}
 use Rattle.gd_model.specs.Same.{is_key}
-use Rattle.gd_model.specs.Store.{with_pair}
 use Rattle.gd_model.specs.declared.fault.RunFault.{RunFault}
 use Rattle.gd_model.specs.declared.fault.RunFault.TheVariants.{BadKey, NullReceiver, WrongNumberOfArguments}
 use Rattle.gd_model.specs.declared.ty.Ty.{Ty, out-Ty}
@@ -31,6 +31,7 @@ use Rattle.value_semantics.specs.Operators.{applied, truth}
 use Rattle.value_semantics.specs.declared.builtin.Builtin.{Builtin}
 use Rattle.store_semantics.specs.Tests.{cast, is_of}
 use Rattle.store_semantics.specs.World.{put}
+use Rattle.store_semantics.specs.Writes.{put_all}
 use Rattle.source_semantics.specs.Attributes.{read_attribute, read_index, read_static, read_variable, stored, bound, unbound}
 use Rattle.source_semantics.specs.Functions.{all_fit, call, foreseen, has_number}
 use Rattle.source_semantics.specs.Meaning.{Code, Frame, Meaning, code_of}
@@ -79,12 +80,8 @@ abbrev pub bare_variable : Context → Pos → List Datum → Run → Variable �
 bare_variable c pos hand r v =
     let name = (out-VarDecl v.decl).name in let s = self_serial (self c.frame) in
     if (out-VarDecl v.decl).is_static then read_static hand r v
-    else if is_direct c.frame.direct name then gives hand (stored c.project r s name) r
+    else if list_any (bytes_eq name) c.frame.direct then gives hand (stored c.project r s name) r
     else read_variable c.project c.meaning c.frame pos hand r s v
-  where
-    is_direct : Option Text → Text → Bool
-    is_direct None name = false
-    is_direct (Some direct) name = bytes_eq direct name
 
 abbrev pub bare_function : Context → ℕ → FuncDecl → Datum
 bare_function c class f = if f.is_static then unbound class f.name else bound (self_serial (self c.frame)) f.name
@@ -144,9 +141,10 @@ class_meant p x = by_shape (out-Ty (p.typed (place x)))
     by_shape (Ty-F.Meta class) = Some class
     by_shape _ = None
 
--- what is constant among the members of a class: constants, enums, enum values
+-- what the analysis knows among the members of a class: constants, enums, enum values, and inner classes, which are no values
 abbrev pub constant_member : Project → Found → Option Datum
 constant_member p (found.EnumValue id i) = Some (enum_value_at p (member_at p id) i)
+constant_member p (found.Class class) = Some null
 constant_member p (found.Member id) = of_kind p (member_at p id)
   where
     in_kind : Project → DeclKind → Option Datum
@@ -159,18 +157,18 @@ constant_member p (found.Member id) = of_kind p (member_at p id)
     of_kind p (Some m) = in_kind p m.kind
 constant_member p _ = None
 
--- an attribute of a class
+-- an attribute of a class; what stands before it is evaluated where a class is reached through a value
 abbrev pub of_class : Context → Pos → List Datum → Run → Went Datum
 of_class c pos hand r = global c pos hand r (c.project.found pos)
 
--- an attribute of a value; where the analysis knows a constant there, it is that one, but for null
+-- an attribute of a value; where the analysis knows a constant or a class there, it is that one, but for null
 abbrev pub of_value : Context → Pos → List Datum → Run → Datum → Text → Option Datum → Went Datum
 of_value c pos hand r null name _ = failed NullReceiver pos None r.world
 of_value c pos hand r v name (Some known) = gives hand known r
 of_value c pos hand r v name None = read_attribute c.project c.meaning c.frame pos hand r v name
 
 abbrev pub attribute_of : Context → Evaluate → Pos → List Datum → Run → Expr → Text → Option ℕ → Went Datum
-attribute_of c ev pos hand r x name (Some class) = of_class c pos hand r
+attribute_of c ev pos hand r x name (Some class) = then_do (ev hand r x) (λ _ r. of_class c pos hand r)
 attribute_of c ev pos hand r x name None = then_do (ev hand r x) (λ v r. of_value c pos hand r v name (constant_member c.project (c.project.found pos)))
 
 -- ---- operators
@@ -220,17 +218,13 @@ abbrev pub all_keys : List (Datum × Datum) → Bool
 all_keys [] = true
 all_keys (q ∷ qs) = if is_key q.0 then all_keys qs else false
 
-abbrev pub pairs_of : List (Datum × Datum) → List (Datum × Datum) → List (Datum × Datum)
-pairs_of before [] = before
-pairs_of before (q ∷ qs) = pairs_of (with_pair before q.0 q.1) qs
-
 -- a key that is none is found when all parts are evaluated; a key that repeats has the later value, at the first place
 abbrev pub dict_literal : Context → Evaluate → Pos → List Datum → Run → List (Expr × Expr) → Went Datum
 dict_literal c ev pos hand r xs =
     let t = key_and_value (c.project.typed pos) in
     then_do (evaluate_pairs (evaluate_tested c ev t.0) (evaluate_tested c ev t.1) hand r xs) (λ qs r.
     if all_keys qs
-    then then_do (at_place pos r (put r.world (made.dict (record { key_type = t.0; value_type = t.1; fixed = false; pairs = pairs_of [] qs })))) (gives hand)
+    then then_do (at_place pos r (put r.world (made.dict (record { key_type = t.0; value_type = t.1; fixed = false; pairs = put_all [] qs })))) (gives hand)
     else failed BadKey pos None r.world)
 
 -- ---- calls
@@ -254,10 +248,10 @@ construct c pos hand r class arguments = by_init (method c.project class (codes 
 
     by_init : Option (ℕ × FuncDecl) → Went Datum
     by_init None = no_init arguments
-    by_init (Some f) = by_code (code_of c.project None f)
+    by_init (Some f) = by_code (code_of c.project f)
 
 abbrev pub call_static : Context → Pos → List Datum → Run → ℕ × FuncDecl → List Datum → Went Datum
-call_static c pos hand r f arguments = call c.project c.meaning c.frame pos (c.project.tests pos) (code_of c.project None f) None arguments hand r
+call_static c pos hand r f arguments = call c.project c.meaning c.frame pos (c.project.tests pos) (code_of c.project f) None arguments hand r
 
 -- a function by its bare name: a static one is that one, another is called through the receiver
 abbrev pub call_member : Context → Pos → List Datum → Run → List Datum → Option (ℕ × FuncDecl) → Went Datum
@@ -283,7 +277,7 @@ call_on_class c pos hand r class name arguments =
 
 abbrev pub call_attribute : Context → Evaluate → Pos → List Datum → Run → Expr → Text → List Expr → Option ℕ → Went Datum
 call_attribute c ev pos hand r x name xs (Some class) =
-    then_do (evaluate_all ev hand r xs) (λ vs r. call_on_class c pos hand r class name vs)
+    then_do (ev hand r x) (λ _ r. then_do (evaluate_all ev hand r xs) (λ vs r. call_on_class c pos hand r class name vs))
 call_attribute c ev pos hand r x name xs None =
     then_do (ev hand r x) (λ v r. then_do (evaluate_all ev (v ∷ hand) r xs) (λ vs r.
     call_method c.project c.meaning c.frame pos (c.project.tests pos) hand r v name vs))
@@ -301,7 +295,7 @@ call_super c pos hand r (found.Member id) arguments = of_base (option_and_then f
   where
     of_base : Option (ℕ × FuncDecl) → Went Datum
     of_base None = went null r
-    of_base (Some f) = call c.project c.meaning c.frame pos (c.project.tests pos) (code_of c.project None f) c.frame.receiver arguments hand r
+    of_base (Some f) = call c.project c.meaning c.frame pos (c.project.tests pos) (code_of c.project f) c.frame.receiver arguments hand r
 call_super c pos hand r _ arguments = went null r
 
 -- ---- expressions

@@ -7,17 +7,17 @@ use Rattle.gd_syntax.specs.declared.tree.expr.Expr.{Expr}
 use Rattle.gd_syntax.specs.declared.tree.decl.FuncDecl.{FuncDecl}
 use Rattle.gd_syntax.specs.declared.tree.stmt.Stmt.{Stmt}
 use Rattle.gd_syntax.specs.declared.tree.stmt.VarDecl.{VarDecl, out-VarDecl}
-use Rattle.source_semantics.specs.Project.{Project, Text}
+use Rattle.source_semantics.specs.Project.{Project, Text, accessed_by}
 use Rattle.source_semantics.specs.State.{Run, Went}
 
 -- the running function: its receiver, the class that it stands in, how many calls stand, the type that it returns, and the
--- variable whose bare name is the variable itself, in an accessor
+-- variables whose bare names are the variables themselves, in an accessor
 pub record Frame : Type 0 where
   pub receiver : Option Datum
   pub class : ℕ
   pub depth : ℕ
   pub returns : Ty
-  pub direct : Option Text
+  pub direct : List Text
 
 -- a parameter: its name with the place, its type, and its default value with the place of its `=`
 pub record Parameter : Type 0 where
@@ -32,7 +32,7 @@ pub record Code : Type 0 where
   pub parameters : List Parameter
   pub returns : Ty
   pub body : List Stmt
-  pub direct : Option Text
+  pub direct : List Text
 
 abbrev pub default_of : Option Pos → Option Expr → Option (Pos × Expr)
 default_of (Some equals) (Some value) = Some (equals, value)
@@ -46,14 +46,14 @@ parameter_of p v = record {
   default = default_of (out-VarDecl v).equals (out-VarDecl v).value;
 }
 
--- a function as it is called; as an accessor of a variable it has that variable's bare name for the variable itself
-abbrev pub code_of : Project → Option Text → ℕ × FuncDecl → Code
-code_of p direct f = record {
+-- a function as it is called
+abbrev pub code_of : Project → ℕ × FuncDecl → Code
+code_of p f = record {
   class = f.0;
   parameters = map (parameter_of p) f.1.params;
   returns = p.returns f.1.pos;
   body = f.1.body;
-  direct = direct;
+  direct = accessed_by p f.0 f.1.name;
 }
 
 -- Entering a function, when the arguments are tested: what it is entered on and with, how many calls stand, the place of the

@@ -119,7 +119,7 @@ call_builtin_method p m frame pos tests hand r (Some builtin) receiver arguments
 
 abbrev pub call_found : Project → Meaning → Frame → Pos → Tests → List Datum → Run → Datum → List Datum → Option (ℕ × FuncDecl) → Went Datum
 call_found p m frame pos tests hand r receiver arguments None = failed NoSuchMethod pos None r.world
-call_found p m frame pos tests hand r receiver arguments (Some f) = call p m frame pos tests (code_of p None f) (Some receiver) arguments hand r
+call_found p m frame pos tests hand r receiver arguments (Some f) = call p m frame pos tests (code_of p f) (Some receiver) arguments hand r
 
 -- A call of a method of a value, at the name after the dot: of an object by name from its own class upwards, of another value by the
 -- builtins of its kind. `hand` is what is held beside the value and the arguments.

@@ -1,5 +1,5 @@
 -- What the meaning of a project is told of it: its classes, and what the analysis says of places.
-use Rattle.std.specs.Prelude.{ℕ, zero, suc, ◌+◌, ◌-◌, Bool, false, not, ◌==◌, List, [], ◌∷◌, ◌++◌, length, filter, reverse, Option, None, Some, option_map, option_and_then, slice_get, bytes_eq, codes, if◌then◌else◌}
+use Rattle.std.specs.Prelude.{ℕ, zero, suc, ◌+◌, ◌-◌, Bool, false, not, ◌==◌, ◌||◌, List, [], ◌∷◌, ◌++◌, length, map, filter, reverse, Option, None, Some, option_map, option_and_then, slice_get, bytes_eq, codes, if◌then◌else◌}
 use Rattle.std.specs.List.{flat_map, position}
 use Rattle.gd_members.specs.declared.Found.{Found}
 use Rattle.gd_model.specs.Datum.{Datum}
@@ -12,6 +12,8 @@ use Rattle.gd_syntax.specs.declared.tree.decl.Decl.{Decl, out-Decl}
 use Rattle.gd_syntax.specs.declared.tree.decl.DeclKind.{DeclKind}
 use Rattle.gd_syntax.specs.declared.tree.decl.DeclKind.TheVariants as d
 use Rattle.gd_syntax.specs.declared.tree.decl.FuncDecl.{FuncDecl}
+use Rattle.gd_syntax.specs.declared.tree.stmt.Accessor.{Accessor, out-Accessor}
+use Rattle.gd_syntax.specs.declared.tree.stmt.Accessor.TheOpen.{Accessor-F}
 use Rattle.gd_syntax.specs.declared.tree.stmt.VarDecl.{VarDecl, out-VarDecl}
 
 -- a text is its code points
@@ -156,6 +158,22 @@ instance_variables p number = filter (λ v. not (is_static v)) (flat_map (own_va
 
 abbrev pub static_variables : Project → ℕ → List Variable
 static_variables p number = filter is_static (own_variables p number)
+
+-- whether an accessor is the function of this name
+abbrev pub is_function : Text → Option Accessor → Bool
+is_function name None = false
+is_function name (Some x) = elim (out-Accessor x) as (λ _. Bool) [
+  | Accessor-F.Named own pos ↦ bytes_eq own name
+  | Accessor-F.Body parameter body pos tokens ↦ false
+]
+
+abbrev pub has_accessor : Text → Variable → Bool
+has_accessor name v = is_function name (out-VarDecl v.decl).setter || is_function name (out-VarDecl v.decl).getter
+
+-- the variables of a class that have this function of it as an accessor: in it their bare names are the variables themselves,
+-- however it is called
+abbrev pub accessed_by : Project → ℕ → Text → List Text
+accessed_by p class name = map name_of (filter (has_accessor name) (own_variables p class))
 
 -- the place of a variable among the values of an object
 abbrev pub slot : Project → ℕ → Text → Option ℕ

@@ -34,7 +34,7 @@ entered pos depth r more = if nat_le 1024 depth then failed CallsTooDeep pos Non
     by_turns zero = ran_out r.world
     by_turns (suc turns) = more (record r { turns = turns })
 
-abbrev pub in_frame : Project → Meaning → Option Datum → ℕ → ℕ → Ty → Option Text → Context
+abbrev pub in_frame : Project → Meaning → Option Datum → ℕ → ℕ → Ty → List Text → Context
 in_frame p m receiver class depth returns direct =
     record { project = p; meaning = m; frame = record { receiver = receiver; class = class; depth = depth; returns = returns; direct = direct } }
 
@@ -91,7 +91,7 @@ initial_value p m depth hand r s v = by_value (out-VarDecl v.decl).equals (out-V
   where
     by_value : Option Pos → Option Expr → Went (Unit {0})
     by_value (Some equals) (Some x) =
-        then_do (evaluate (in_frame p m (Some (object s)) v.class depth Variant None) hand r x) (λ value r. store_variable p equals hand r s v value)
+        then_do (evaluate (in_frame p m (Some (object s)) v.class depth Variant []) hand r x) (λ value r. store_variable p equals hand r s v value)
     by_value _ _ = went tt r
 
 abbrev pub initial_values : Project → Meaning → ℕ → List Datum → Run → ℕ → List Variable → Went (Unit {0})
@@ -106,7 +106,7 @@ initialize p m x hand r s = by_init (method p x.class (codes "_init"))
     by_init : Option (ℕ × FuncDecl) → Went (Unit {0})
     by_init None = went tt r
     by_init (Some f) =
-        then_do (m.enter (record { code = code_of p None f; receiver = Some (object s); arguments = x.arguments; depth = x.depth + 1; pos = x.pos }) (object s ∷ hand) r)
+        then_do (m.enter (record { code = code_of p f; receiver = Some (object s); arguments = x.arguments; depth = x.depth + 1; pos = x.pos }) (object s ∷ hand) r)
         (λ _ r. went tt (settled (object s ∷ hand) r))
 
 abbrev pub nulls : List Variable → List Datum
@@ -139,7 +139,7 @@ pub data Ended : Type 0 where
   out_of_turns : Ended
 
 abbrev pub no_class : ℕ → Meaning → Project → Context
-no_class class m p = in_frame p m None class 0 Variant None
+no_class class m p = in_frame p m None class 0 Variant []
 
 -- the constants are made in their order
 abbrev pub with_things : World → List Thing → World
@@ -191,7 +191,7 @@ static_init p m r number = by_function (own_function p number (codes "_static_in
     by_function : Option (ℕ × FuncDecl) → Went (Unit {0})
     by_function None = went tt r
     by_function (Some f) =
-        then_do (m.enter (record { code = code_of p None f; receiver = None; arguments = []; depth = 0; pos = f.1.pos }) [] r) (λ _ r. went tt (settled [] r))
+        then_do (m.enter (record { code = code_of p f; receiver = None; arguments = []; depth = 0; pos = f.1.pos }) [] r) (λ _ r. went tt (settled [] r))
 
 -- for each class its static variables get their initial values, and then its `_static_init` is called
 abbrev pub prepare_class : Project → Meaning → Run → ℕ → Went (Unit {0})

@@ -31,7 +31,7 @@ is_valid r c = behind c.object
     behind (Some s) = is_there r s
 
 abbrev pub call_found : Project → Meaning → Frame → Pos → Option Datum → List Datum → List Datum → Run → Option (ℕ × FuncDecl) → Went Datum
-call_found p m frame pos receiver arguments hand r (Some f) = call p m frame pos [] (code_of p None f) receiver arguments hand r
+call_found p m frame pos receiver arguments hand r (Some f) = call p m frame pos [] (code_of p f) receiver arguments hand r
 call_found p m frame pos receiver arguments hand r None = failed NoSuchMethod pos None r.world
 
 -- what a Callable calls: a method of its object, by name from the object's own class, or a static function

@@ -26,6 +26,7 @@ use Rattle.store_semantics.specs.Starts.{start}
 use Rattle.source_semantics.specs.Assignments.{assign}
 use Rattle.source_semantics.specs.Control.{Control, by_break, by_continue, close_block, closed, leave, left, next, opened, return, with_subject}
 use Rattle.source_semantics.specs.Expressions.{Context, condition, evaluate, evaluate_all}
+use Rattle.source_semantics.specs.Functions.{foreseen}
 use Rattle.source_semantics.specs.Matching.{match_branch}
 use Rattle.source_semantics.specs.Places.{Layer, layer, place}
 use Rattle.source_semantics.specs.Project.{Text, bases, names}
@@ -198,7 +199,7 @@ abbrev pub loop_over : Context → Execute → Pos → List Datum → Run → Te
 loop_over c execute at hand r name pos body v None = failed NotIterable at None r.world
 loop_over c execute at hand r name pos body v (Some over) = begin_loop c execute hand (held_by v over) over r name pos body
 
--- ---- `range(..)` as a subject makes no array
+-- ---- `range(..)` as a subject makes no array; its arguments are tested as those of a call
 
 abbrev pub range_values : Result (ℤ × ℤ × ℤ) RunFault → Result (List Datum) RunFault
 range_values (Err f) = Err ValueOfAnotherType
@@ -219,7 +220,8 @@ is_range c _ pos = false
 abbrev pub for_each : Context → Execute → List Datum → Run → Text → Pos → Pos → Expr → List Stmt → Layer → Went Control
 for_each c execute hand r name pos at x body (ExprKind-F.Call f xs) =
     if is_range c (layer f) (place f)
-    then then_do (evaluate_all (evaluate c) hand r xs) (λ vs r. loop_range c execute (place x) hand r name pos body (range_values (range_args vs)))
+    then then_do (evaluate_all (evaluate c) hand r xs) (λ vs r. then_do (foreseen c.project (c.project.tests (place x)) vs r) (λ _ r.
+    loop_range c execute (place x) hand r name pos body (range_values (range_args vs))))
     else then_do (evaluate c hand r x) (λ v r. loop_over c execute at hand r name pos body v (subject_of r v))
 for_each c execute hand r name pos at x body _ =
     then_do (evaluate c hand r x) (λ v r. loop_over c execute at hand r name pos body v (subject_of r v))
