@@ -1,0 +1,12 @@
+pub mod Arguments
+pub mod Calls
+pub mod Conversions
+pub mod Literals
+pub mod Members
+pub mod Names
+pub mod Operators
+pub mod Overrides
+pub mod Places
+pub mod Subscripts
+pub mod Targets
+pub mod Verdicts
