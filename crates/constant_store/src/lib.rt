@@ -9,8 +9,6 @@ mod literals;
 mod operations;
 mod reading;
 mod store;
-#[cfg(test)]
-mod tests;
 mod tests_of_types;
 mod thing;
 

@@ -9,8 +9,6 @@ mod key;
 mod look;
 mod on_heap;
 mod place;
-#[cfg(test)]
-mod tests;
 
 pub use array::TypedArray;
 pub use dict::OrderedDict;

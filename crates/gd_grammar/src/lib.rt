@@ -12,6 +12,3 @@ mod script;
 
 pub use fault::SyntaxFault;
 pub use script::parse;
-
-#[cfg(test)]
-mod tests;

@@ -19,8 +19,6 @@ mod recent;
 mod spelled;
 mod stop;
 mod stopped;
-#[cfg(test)]
-mod tests;
 mod word;
 
 pub use calls::{lex, lexemes};

@@ -4,7 +4,5 @@
 mod connection;
 mod connections;
 mod lists;
-#[cfg(test)]
-mod tests;
 
 pub use connections::{CONNECT_ONE_SHOT, Connections, REFUSED};

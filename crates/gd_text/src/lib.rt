@@ -10,8 +10,6 @@ mod number;
 mod pattern;
 mod printed;
 mod search;
-#[cfg(test)]
-mod tests;
 
 pub use cut::{left, right, strip, substr};
 pub use formatting::{Arg, FormatFault, format};

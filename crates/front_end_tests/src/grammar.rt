@@ -1,5 +1,5 @@
 //! Small token lists, written by hand: the token with number k, from 1, stands at column k of line 1.
-use super::{SyntaxFault, parse};
+use gd_grammar::{SyntaxFault, parse};
 use gd_rules::Rule;
 use gd_syntax::{
     Decl, DeclKind, Expr, ExprKind, Keyword, Mark, Operator, Pos, Script, Text, Token, TokenKind,

@@ -1,6 +1,6 @@
 //! What connects, what is refused, and what an emission calls.
-use super::*;
 use gd_model::{Shared, Target};
+use gd_signals::Connections;
 use gd_syntax::{Text, TextFault};
 use slot_arena::Handle;
 use std::alloc::Global;

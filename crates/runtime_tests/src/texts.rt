@@ -1,8 +1,8 @@
-use crate::{
+use gd_syntax::{Text, TextFault};
+use gd_text::{
     Arg, FormatFault, concat, decimal, find, format, is_valid_int, left, repeat, replace, right,
     split, strip, substr, to_int,
 };
-use gd_syntax::{Text, TextFault};
 use std::alloc::Global;
 use std::test::Fail;
 

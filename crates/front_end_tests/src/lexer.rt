@@ -1,5 +1,5 @@
 //! Tests of the public calls.
-use crate::{Comment, LexFault, Lexeme, lex, lexemes};
+use gd_lexer::{Comment, LexFault, Lexeme, lex, lexemes};
 use gd_rules::Rule;
 use gd_syntax::{Token, TokenKind};
 use no_memory::NoMemory;

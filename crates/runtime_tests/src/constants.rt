@@ -1,5 +1,5 @@
 //! Values of constants: what operators, readings, tests of types and literals give, and with which faults.
-use crate::{ConstantStore, LiteralFault, same_key};
+use constant_store::{ConstantStore, LiteralFault, same_key};
 use gd_containers::ThingFault;
 use gd_model::{Fixed, FixedThing, RunFault, Ty, Value};
 use gd_operators::is_same;

@@ -1,4 +1,4 @@
-use crate::{OnHeap, OrderedDict, ThingFault, TypedArray, key_of};
+use gd_containers::{OnHeap, OrderedDict, ThingFault, TypedArray, key_of};
 use gd_model::{Key, RunFault, Ty, Value};
 use gd_syntax::Text;
 use std::alloc::Global;
