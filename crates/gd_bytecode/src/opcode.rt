@@ -1,7 +1,7 @@
 //! The operations of the machine (docs/machine.md, "Instructions").
 
 /// What an instruction does, in the order of the numbers, from 0, that images write.
-#[derive(Clone, Copy, Debug, PartialEq, Eq)]
+#[derive(Clone, Copy, PartialEq, Eq)]
 pub enum Opcode {
     /// Pushes a value: `a` is the number of a `Tag`, `b` the index that it takes.
     Push,

@@ -4,7 +4,7 @@ use gd_model::Ty;
 use gd_syntax::{Seq, Text};
 
 /// One instruction, with its operands and the place that its faults name.
-#[derive(Clone, Copy, Debug)]
+#[derive(Clone, Copy)]
 pub struct Instr {
     pub op: Opcode,
     pub a: u32,
@@ -32,7 +32,7 @@ pub struct Program {
 }
 
 /// The kind of a thing that a constant holds.
-#[derive(Clone, Copy, Debug, PartialEq, Eq)]
+#[derive(Clone, Copy, PartialEq, Eq)]
 pub enum ConstKind {
     Array,
     Dict,
@@ -41,7 +41,7 @@ pub enum ConstKind {
 }
 
 /// How an operand of a constant, or a Push, names its value.
-#[derive(Clone, Copy, Debug, PartialEq, Eq)]
+#[derive(Clone, Copy, PartialEq, Eq)]
 pub enum Tag {
     Null,
     False,
@@ -55,7 +55,7 @@ pub enum Tag {
 }
 
 /// A value in a constant. The number counts only for `Int`, `Text` and `Constant`.
-#[derive(Clone, Copy, Debug, PartialEq, Eq)]
+#[derive(Clone, Copy, PartialEq, Eq)]
 pub struct Operand {
     pub tag: Tag,
     pub number: u32,
@@ -92,7 +92,7 @@ pub struct ClassCode {
 }
 
 /// A variable of a class, with the functions of its accessors.
-#[derive(Clone, Copy, Debug, PartialEq, Eq)]
+#[derive(Clone, Copy, PartialEq, Eq)]
 pub struct VarCode {
     pub name: u32,
     pub is_static: bool,
@@ -102,7 +102,7 @@ pub struct VarCode {
 }
 
 /// A function under a name among the methods of a class.
-#[derive(Clone, Copy, Debug, PartialEq, Eq)]
+#[derive(Clone, Copy, PartialEq, Eq)]
 pub struct Method {
     pub name: u32,
     pub function: u32,

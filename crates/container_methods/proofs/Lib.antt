@@ -1,0 +1,11 @@
+pub mod Arguments
+pub mod Decided
+pub mod Elements
+pub mod Filled
+pub mod Insertion
+pub mod Listed
+pub mod Merged
+pub mod Pairs
+pub mod Places
+pub mod Putting
+pub mod Sorted

@@ -1,0 +1,9 @@
+pub mod Firsts
+pub mod Marked
+pub mod Names
+pub mod Nearest
+pub mod Numbered
+pub mod Pairs
+pub mod Potentials
+pub mod Refused
+pub mod TypesMet

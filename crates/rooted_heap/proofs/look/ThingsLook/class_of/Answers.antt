@@ -1,0 +1,12 @@
+use Rattle.std.proofs.Common.{ap, ◌∙◌, sym}
+use Rattle.std.specs.Prelude.{option_map}
+use Rattle.gd_model.specs.View.{class_in}
+use Rattle.rooted_heap.specs.Rooted.{thing_view}
+use Rattle.rooted_heap.proofs.Seen.{seen_is}
+use Rattle.rooted_heap.proofs.look.ThingsLook.class_of.Goals as goal
+
+pub returns : goal.returns
+returns c = c.class_of.ensures ∙ ap (λ o. class_in (option_map thing_view o)) c.in_ok-thing.ensures ∙ ap class_in (sym (seen_is c.args.self.now.heap.now.things c.args.h c.rising_law.ensures))
+
+pub returns-in_err-thing : goal.returns-in_err-thing
+returns-in_err-thing c = c.from_residual.ensures ∙ ap (λ o. class_in (option_map thing_view o)) c.in_err-thing.ensures ∙ ap class_in (sym (seen_is c.args.self.now.heap.now.things c.args.h c.rising_law.ensures))

@@ -1,0 +1,4 @@
+use Rattle.rooted_heap.proofs.uncounted.settle.Given as goal
+
+abbrev pub ghosts-settle_in : goal.ghosts-settle_in
+ghosts-settle_in a = record { name = a.blank.name; parts = a.blank.parts }

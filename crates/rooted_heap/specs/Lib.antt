@@ -1,0 +1,12 @@
+pub mod Changing
+pub mod Entries
+pub mod Keeping
+pub mod Lent
+pub mod Making
+pub mod Moving
+pub mod Pairs
+pub mod Plain
+pub mod Reading
+pub mod Rooted
+pub mod Stored
+pub mod Writing
