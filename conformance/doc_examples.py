@@ -7,7 +7,8 @@ An example is
 - a block between ```gdscript and ```. `check` finds no fault in it, or the one that the next line with text tells, as
   in 'gives `main.gd:2:10: error S02: form left out`'
   (the other blocks of this kind hold a grammar or the steps of a call, and are no scripts);
-- a block of indented lines, a script with the lines below it that `check` prints;
+- a block of indented lines, a script with the lines below it that `check` prints, with `--warn` where one of them is a
+  warning, and with `--marks` where one is a mark;
 - a row of a table that begins with a script and such a line.
 In the last two <tab>, <space> and <FF> stand for these characters and that byte, <3 tabs> for three tabs, <3 times: x>
 for xxx, and <3 lines, each a tab deeper: x> for three lines, the first of them behind one tab. Each script that an
@@ -24,7 +25,7 @@ from program import ROOT, Answer, Tally, answer, named
 FENCE = "```"
 SCRIPT_FENCE = "```gdscript"
 OTHER_FENCES = ("```", "```text")
-PRINTED = re.compile(r"main\.gd:\d+:\d+: error [A-Z]\d+: ")
+PRINTED = re.compile(r"main\.gd:\d+:\d+: (error [A-Z]\d+: |warning W\d: |mark$)")
 GIVES = re.compile(r"gives `(main\.gd:[^`]+)`")
 ROW = re.compile(r"\| `([^`]+)` \| `(main\.gd:[^`]+)` \|.*")
 NEIGHBOUR = re.compile(rb'"res://([^"]+\.gd)"')
@@ -43,8 +44,12 @@ class Example(NamedTuple):
     script: bytes
     printed: str
 
+    def words(self):
+        options = {": warning ": "--warn", ": mark\n": "--marks"}
+        return ["check", *(option for sign, option in options.items() if sign in self.printed)]
+
     def wanted(self):
-        return Answer(1 if self.printed else 0, self.printed.encode())
+        return Answer(1 if ": error " in self.printed else 0, self.printed.encode())
 
     def files(self):
         neighbours = {name.decode(): b"" for name in NEIGHBOUR.findall(self.script)}
@@ -137,7 +142,7 @@ def main():
     program, tally = named(sys.argv[1]), Tally()
     for page in sorted((ROOT / "docs").glob("*.md")):
         for example in examples_of(page):
-            found = answer(program, ["check"], example.files())
+            found = answer(program, example.words(), example.files())
             tally.expect(found == example.wanted(), f"{example.where}: {found}, and the page says {example.printed!r}")
     tally.end()
 

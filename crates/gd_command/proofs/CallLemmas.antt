@@ -1,15 +1,17 @@
 -- What a call leaves in its sink, from the answer that it decided on.
-use Rattle.std.proofs.Common.{◌≡◌, ◌≢◌, ℕ, List, [], ◌∷◌, take, Option, Some, None, Result, Ok, Err, IfSome, IfOk, refl, sym, ap, subst, ◌∙◌}
+use Rattle.std.proofs.Common.{◌≡◌, ◌≢◌, ℕ, Bool, true, false, if◌then◌else◌, List, [], ◌∷◌, take, Option, Some, None, Result, Ok, Err, IfSome, IfOk, refl, sym, ap, subst, ◌∙◌}
 use Rattle.std.proofs.lemmas.List.{append-nil}
+use Rattle.std.specs.List.{list_any}
 use Rattle.gd_outside.specs.Files.{File}
 use Rattle.gd_outside.specs.Sink.{Appends, AppendsPrefix}
 use Rattle.gd_outside.specs.declared.shelf.FailedCall.{FailedCall}
 use Rattle.gd_rules.specs.declared.diag.Diag.{Diag}
 use Rattle.gd_command.specs.Words.{Means}
-use Rattle.gd_command.specs.Report.{report_status}
+use Rattle.gd_command.specs.Report.{is_error, report_status}
 use Rattle.gd_command.specs.Output.{Output, RunOutput, CheckOutput, NoCommand, usage, command, usage_line, scripts}
 use Rattle.gd_command.specs.Answer.{IsAnswer, IsFaultOf, answer_text, answer_status}
 use Rattle.gd_command.specs.Call.{IsReached, IsOnly, WordsRead, list_failed, read_failed, IsBegun, nothing, output_begun, fault_begun, Writes, Answers, IsUsageAnswer}
+use Rattle.gd_command.specs.declared.words.CheckOptions.{CheckOptions}
 use Rattle.gd_command.specs.declared.words.Command.TheVariants.{Check, Run}
 use Rattle.gd_command.specs.declared.answer.Answer.{Answer}
 use Rattle.gd_command.specs.declared.answer.Answer.TheVariants.{Usage, ListFault, ReadFault, NotBuilt, Runs, TooManyFiles, LongFile, LongProject, Checked}
@@ -35,11 +37,11 @@ told-run (Some files) words main failed (Ok answer) means is =
     IsAnswer-more (RunOutput files main) (Output words files) (IsOnly (scripts files) main) (WordsRead words files) files failed answer (λ text s output. command (Run main) text s means output) (λ path only. (Run main, means, only)) is
 
 -- what `check` answers is what its words mean
-pub told-check : {E : Type 0} (told : Option (List File)) (words : List (List ℕ)) (failed : FailedCall) (r : Result Answer E) → Means words Check → IfSome told (λ files. IfOk r (IsAnswer (CheckOutput (scripts files)) (IsReached (scripts files)) files failed)) → IfSome told (λ files. IfOk r (IsAnswer (Output words files) (WordsRead words files) files failed))
-told-check None words failed r means is = tt
-told-check (Some files) words failed (Err e) means is = tt
-told-check (Some files) words failed (Ok answer) means is =
-    IsAnswer-more (CheckOutput (scripts files)) (Output words files) (IsReached (scripts files)) (WordsRead words files) files failed answer (λ text s output. command Check text s means output) (λ path reached. (Check, means, reached)) is
+pub told-check : {E : Type 0} (told : Option (List File)) (words : List (List ℕ)) (failed : FailedCall) (options : CheckOptions) (r : Result Answer E) → Means words (Check options) → IfSome told (λ files. IfOk r (IsAnswer (CheckOutput options (scripts files)) (IsReached (scripts files)) files failed)) → IfSome told (λ files. IfOk r (IsAnswer (Output words files) (WordsRead words files) files failed))
+told-check None words failed options r means is = tt
+told-check (Some files) words failed options (Err e) means is = tt
+told-check (Some files) words failed options (Ok answer) means is =
+    IsAnswer-more (CheckOutput options (scripts files)) (Output words files) (IsReached (scripts files)) (WordsRead words files) files failed answer (λ text s output. command (Check options) text s means output) (λ path reached. (Check options, means, reached)) is
 
 pub told-usage : (told : Option (List File)) (words : List (List ℕ)) → NoCommand words → IfSome told (λ files. Output words files usage_line status.Usage)
 told-usage None words none = tt
@@ -48,9 +50,12 @@ told-usage (Some files) words none = usage none
 abbrev Says : List (List ℕ) → List File → FailedCall → Answer → Type 0
 Says words files failed answer = IsAnswer (Output words files) (WordsRead words files) files failed answer
 
+writes-by : (words : List (List ℕ)) (files : List File) (failed : FailedCall) (rose : Type 0) (faulty : Bool) (text : List ℕ) → Output words files text (if faulty then status.Faulty else status.Done) → Writes words files failed rose (if faulty then status.Faulty else status.Done) text
+writes-by words files failed rose true text is = is
+writes-by words files failed rose false text is = is
+
 writes-report : (words : List (List ℕ)) (files : List File) (failed : FailedCall) (rose : Type 0) (diags : List Diag) (text : List ℕ) → Output words files text (report_status diags) → Writes words files failed rose (report_status diags) text
-writes-report words files failed rose [] text is = is
-writes-report words files failed rose (_ ∷ _) text is = is
+writes-report words files failed rose diags text is = writes-by words files failed rose (list_any is_error diags) text is
 
 writes-whole : (words : List (List ℕ)) (files : List File) (failed : FailedCall) (rose : Type 0) (answer : Answer) → Says words files failed answer → Writes words files failed rose (answer_status answer) (answer_text answer)
 writes-whole words files failed rose Usage is = is
@@ -96,9 +101,12 @@ answers-nothing (Some files) None words failed rose = ([], nothing, refl)
 answers-nothing (Some files) (Some held) words failed rose = ([], nothing, ap Some (sym (append-nil held)))
 
 -- which answers have these statuses
+else-by : (faulty : Bool) → ((if faulty then status.Faulty else status.Done) ≢ status.Usage) × ((if faulty then status.Faulty else status.Done) ≢ status.ReadFault) × ((if faulty then status.Faulty else status.Done) ≢ status.WriteFault)
+else-by true = ((λ is. cc), (λ is. cc), λ is. cc)
+else-by false = ((λ is. cc), (λ is. cc), λ is. cc)
+
 reports-else : (diags : List Diag) → (report_status diags ≢ status.Usage) × (report_status diags ≢ status.ReadFault) × (report_status diags ≢ status.WriteFault)
-reports-else [] = ((λ is. cc), (λ is. cc), λ is. cc)
-reports-else (_ ∷ _) = ((λ is. cc), (λ is. cc), λ is. cc)
+reports-else diags = else-by (list_any is_error diags)
 
 pub only-usage : (answer : Answer) (s : Status) → s ≡ answer_status answer → s ≡ status.Usage → answer ≡ Usage
 only-usage Usage s same is = refl

@@ -33,7 +33,12 @@ use Rattle.gd_lexer.specs.declared.fault.LexFault.{LexFault}
 use Rattle.gd_lexer.specs.declared.fault.LexFault.TheVariants.{Fault}
 use Rattle.gd_grammar.specs.Fault.{StandsAt}
 use Rattle.gd_command.specs.Output.{scripts, sources_of, IsShort, total, CheckOutput, many_files, long_file, long_project, checked}
-use Rattle.gd_command.specs.Report.{ReportState, FileFinds, lexical, syntax, nothing, Finds, clean_file, faulty_file, diag_line, report_status}
+use Rattle.gd_command.specs.Judged.{CheckFinds, FileFinds, InFile, IsAtToken, fault_of, lexical, nothing, syntax}
+use Rattle.gd_command.specs.Report.{ReportState, report_status, report_text}
+use Rattle.gd_command.specs.declared.judge.Reading.{Reading}
+use Rattle.gd_command.specs.declared.judge.Reading.TheVariants.{Tree}
+use Rattle.gd_command.specs.declared.judge.Reading.TheVariants as reading
+use Rattle.gd_command.specs.declared.words.CheckOptions.{CheckOptions}
 use Rattle.gd_command.specs.Answer.{IsAnswer}
 use Rattle.gd_command.specs.Call.{IsReached}
 use Rattle.gd_command.specs.Check.{AreAt, AreRead, AddUp, Stops, Hinders, bytes_of}
@@ -168,9 +173,9 @@ counted_long (Some files) paths i bytes kept end long counted = λ read are at.
 kept_are : (files : List File) (paths kept : List (List ℕ)) → paths ≡ paths_of files → kept ≡ filter is_script paths → kept ≡ paths_of (scripts files)
 kept_are files paths kept all is = is ∙ ap (filter is_script) all ∙ filter-paths files
 
-pub told_many : (told : Option (List File)) (paths kept : List (List ℕ)) → IfSome told (λ files. paths ≡ paths_of files) → kept ≡ filter is_script paths → 1024 < length kept → IfSome told (λ files. CheckOutput (scripts files) (codes "too large: files\n") status.TooLarge)
-told_many None paths kept all is many = tt
-told_many (Some files) paths kept all is many =
+pub told_many : (options : CheckOptions) (told : Option (List File)) (paths kept : List (List ℕ)) → IfSome told (λ files. paths ≡ paths_of files) → kept ≡ filter is_script paths → 1024 < length kept → IfSome told (λ files. CheckOutput options (scripts files) (codes "too large: files\n") status.TooLarge)
+told_many options None paths kept all is many = tt
+told_many options (Some files) paths kept all is many =
     many_files (omega (arith, ap length (kept_are files paths kept all is), length-map (scripts files) (λ (file : File). file.0)))
 
 -- what stopped the reading of all scripts is what `check` answers
@@ -187,27 +192,27 @@ told_failed (Some files) now paths kept failed path stop which same rising all i
     let (call, before, bytes, after, (parts, short)) = subst (λ (o : Option (List File)). StopsAt o kept failed (unread.Failed path)) same (subst (λ (w : Unread). StopsAt now kept failed w) which why) (scripts files) are (scripts_at files (subst IsRising all rising)) in
     (call, record { few = few_scripts files kept are few; before = before; bytes = bytes; after = after; split = parts; short = short })
 
-pub told_long_file : (told now : Option (List File)) (paths kept : List (List ℕ)) (failed : FailedCall) (path : List ℕ) (stop : Unread) → stop ≡ unread.LongFile path → now ≡ told → IsRising paths → IfSome told (λ files. paths ≡ paths_of files) → kept ≡ filter is_script paths → length kept ≤ 1024 → StopsAt now kept failed stop → IfSome told (λ files. CheckOutput (scripts files) (codes "too large: file " ++ (path ++ (10 ∷ []))) status.TooLarge)
-told_long_file None now paths kept failed path stop which same rising all is few why = tt
-told_long_file (Some files) now paths kept failed path stop which same rising all is few why =
+pub told_long_file : (options : CheckOptions) (told now : Option (List File)) (paths kept : List (List ℕ)) (failed : FailedCall) (path : List ℕ) (stop : Unread) → stop ≡ unread.LongFile path → now ≡ told → IsRising paths → IfSome told (λ files. paths ≡ paths_of files) → kept ≡ filter is_script paths → length kept ≤ 1024 → StopsAt now kept failed stop → IfSome told (λ files. CheckOutput options (scripts files) (codes "too large: file " ++ (path ++ (10 ∷ []))) status.TooLarge)
+told_long_file options None now paths kept failed path stop which same rising all is few why = tt
+told_long_file options (Some files) now paths kept failed path stop which same rising all is few why =
     let are = kept_are files paths kept all is in
     let (before, bytes, after, (parts, short), long) = subst (λ (o : Option (List File)). StopsAt o kept failed (unread.LongFile path)) same (subst (λ (w : Unread). StopsAt now kept failed w) which why) (scripts files) are (scripts_at files (subst IsRising all rising)) in
     long_file before after (path, bytes) (few_scripts files kept are few) parts short long
 
-pub told_long_project : (told now : Option (List File)) (paths kept : List (List ℕ)) (failed : FailedCall) (stop : Unread) → stop ≡ unread.LongProject → now ≡ told → IsRising paths → IfSome told (λ files. paths ≡ paths_of files) → kept ≡ filter is_script paths → length kept ≤ 1024 → StopsAt now kept failed stop → IfSome told (λ files. CheckOutput (scripts files) (codes "too large: project\n") status.TooLarge)
-told_long_project None now paths kept failed stop which same rising all is few why = tt
-told_long_project (Some files) now paths kept failed stop which same rising all is few why =
+pub told_long_project : (options : CheckOptions) (told now : Option (List File)) (paths kept : List (List ℕ)) (failed : FailedCall) (stop : Unread) → stop ≡ unread.LongProject → now ≡ told → IsRising paths → IfSome told (λ files. paths ≡ paths_of files) → kept ≡ filter is_script paths → length kept ≤ 1024 → StopsAt now kept failed stop → IfSome told (λ files. CheckOutput options (scripts files) (codes "too large: project\n") status.TooLarge)
+told_long_project options None now paths kept failed stop which same rising all is few why = tt
+told_long_project options (Some files) now paths kept failed stop which same rising all is few why =
     let are = kept_are files paths kept all is in
     let long = subst (λ (o : Option (List File)). StopsAt o kept failed unread.LongProject) same (subst (λ (w : Unread). StopsAt now kept failed w) which why) (scripts files) are (scripts_at files (subst IsRising all rising)) in
     long_project (few_scripts files kept are few) long.0 long.1
 
-pub told_checked : (told now : Option (List File)) (paths kept : List (List ℕ)) (sources : List (Vec ℕ Global)) (failed : FailedCall) (report : ReportState) → now ≡ told → IsRising paths → IfSome told (λ files. paths ≡ paths_of files) → kept ≡ filter is_script paths → IfSome now (λ files. (read : List File) → kept ≡ paths_of read → AreAt files read → AreRead read sources) → report.paths ≡ kept → Finds (bytes_of sources) report.diags → IfSome told (λ files. IsAnswer (CheckOutput (scripts files)) (IsReached (scripts files)) files failed (Checked report))
-told_checked None now paths kept sources failed report same rising all is fits names finds = tt
-told_checked (Some files) now paths kept sources failed report same rising all is fits names finds =
+pub told_checked : (options : CheckOptions) (told now : Option (List File)) (paths kept : List (List ℕ)) (sources : List (Vec ℕ Global)) (failed : FailedCall) (report : ReportState) → now ≡ told → IsRising paths → IfSome told (λ files. paths ≡ paths_of files) → kept ≡ filter is_script paths → IfSome now (λ files. (read : List File) → kept ≡ paths_of read → AreAt files read → AreRead read sources) → report.paths ≡ kept → CheckFinds options (bytes_of sources) report.diags report.marks → IfSome told (λ files. IsAnswer (CheckOutput options (scripts files)) (IsReached (scripts files)) files failed (Checked report))
+told_checked options None now paths kept sources failed report same rising all is fits names finds = tt
+told_checked options (Some files) now paths kept sources failed report same rising all is fits names finds =
     let are = kept_are files paths kept all is in
     let read = subst (λ (o : Option (List File)). IfSome o (λ files. (read : List File) → kept ≡ paths_of read → AreAt files read → AreRead read sources)) same fits (scripts files) are (scripts_at files (subst IsRising all rising)) in
-    let found : Finds (sources_of (scripts files)) report.diags = subst (λ (list : List (List ℕ)). Finds list report.diags) read.bytes finds in
-    subst (λ (list : List (List ℕ)). CheckOutput (scripts files) (flat_map (diag_line list) report.diags) (report_status report.diags)) (sym (names ∙ are)) (checked report.diags read.fits found)
+    let found : CheckFinds options (sources_of (scripts files)) report.diags report.marks = subst (λ (list : List (List ℕ)). CheckFinds options list report.diags report.marks) read.bytes finds in
+    subst (λ (list : List (List ℕ)). CheckOutput options (scripts files) (report_text (record { paths = list; diags = report.diags; marks = report.marks })) (report_status report.diags)) (sym (names ∙ are)) (checked report.diags report.marks read.fits found)
 
 -- a whole file has a token
 pub whole_has_token : (file : ℕ) (tokens : List Token) → AreWhole file tokens → 0 < length tokens
@@ -234,27 +239,24 @@ of_token file tokens k pos rule whole stands =
 
 -- what the parser finds among the tokens of a file
 
-abbrev AtToken : List Token → Option Diag → Type 0
-AtToken tokens found = IfSome found (λ diag. (k : ℕ) × StandsAt tokens k diag.pos diag.rule)
+finds_at : (file : ℕ) (bytes : List ℕ) (tokens : List Token) (r : Reading) → Lexes file bytes tokens → IsAtToken tokens r → FileFinds file bytes (fault_of r)
+finds_at file bytes tokens (Tree tree) lexes is = nothing tokens lexes
+finds_at file bytes tokens (reading.Fault diag) lexes is = syntax diag tokens is.0 lexes is.1
 
-finds_at : (file : ℕ) (bytes : List ℕ) (tokens : List Token) (found : Option Diag) → Lexes file bytes tokens → AtToken tokens found → FileFinds file bytes found
-finds_at file bytes tokens None lexes is = nothing tokens lexes
-finds_at file bytes tokens (Some diag) lexes is = syntax diag tokens is.0 lexes is.1
-
-pub parser_finds : {E : Type 0} (file : ℕ) (bytes : List ℕ) (tokens given : List Token) (r : Result (Option Diag) E) → given ≡ tokens → Lexes file bytes tokens → IfOk r (λ found. AtToken given found) → IfOk r (FileFinds file bytes)
+pub parser_finds : {E : Type 0} (file : ℕ) (bytes : List ℕ) (tokens given : List Token) (r : Result Reading E) → given ≡ tokens → Lexes file bytes tokens → IfOk r (IsAtToken given) → IfOk r (λ x. FileFinds file bytes (fault_of x))
 parser_finds file bytes tokens given (Err e) same lexes is = tt
-parser_finds file bytes tokens given (Ok found) same lexes is = finds_at file bytes tokens found lexes (subst (λ (list : List Token). AtToken list found) same is)
+parser_finds file bytes tokens given (Ok x) same lexes is = finds_at file bytes tokens x lexes (subst (λ (list : List Token). IsAtToken list x) same is)
 
-in_file : (file : ℕ) (tokens : List Token) (found : Option Diag) → AreWhole file tokens → AtToken tokens found → IfSome found (λ diag. diag.pos.file ≡ file)
-in_file file tokens None whole is = tt
-in_file file tokens (Some diag) whole is = of_token file tokens is.0 diag.pos diag.rule whole is.1
+in_file : (file : ℕ) (tokens : List Token) (r : Reading) → AreWhole file tokens → IsAtToken tokens r → InFile file r
+in_file file tokens (Tree tree) whole is = tt
+in_file file tokens (reading.Fault diag) whole is = of_token file tokens is.0 diag.pos diag.rule whole is.1
 
-pub parser_in : {E : Type 0} (file : ℕ) (tokens given : List Token) (r : Result (Option Diag) E) → given ≡ tokens → AreWhole file tokens → IfOk r (λ found. AtToken given found) → IfOk r (λ found. IfSome found (λ diag. diag.pos.file ≡ file))
+pub parser_in : {E : Type 0} (file : ℕ) (tokens given : List Token) (r : Result Reading E) → given ≡ tokens → AreWhole file tokens → IfOk r (IsAtToken given) → IfOk r (InFile file)
 parser_in file tokens given (Err e) same whole is = tt
-parser_in file tokens given (Ok found) same whole is = in_file file tokens found whole (subst (λ (list : List Token). AtToken list found) same is)
+parser_in file tokens given (Ok x) same whole is = in_file file tokens x whole (subst (λ (list : List Token). IsAtToken list x) same is)
 
 -- what the lexer refuses is the first lexical fault
-pub lexical_of : (file : ℕ) (bytes : List ℕ) (answer : LexFault) (pos at : Pos) (rule broken : Rule) → answer ≡ Fault at broken → pos ≡ at → rule ≡ broken → IsFirstFault file bytes answer → FileFinds file bytes (Some (record { pos = pos; rule = rule }))
+pub lexical_of : (file : ℕ) (bytes : List ℕ) (answer : LexFault) (pos at : Pos) (rule broken : Rule) → answer ≡ Fault at broken → pos ≡ at → rule ≡ broken → IsFirstFault file bytes answer → FileFinds file bytes ((record { pos = pos; rule = rule }) ∷ [])
 lexical_of file bytes answer pos at rule broken is place by first =
     let there : FirstFault file bytes at broken = subst (IsFirstFault file bytes) is first in
     lexical (record { pos = pos; rule = rule }) (subst (λ (p : Pos). FirstFault file bytes p rule) (sym place) (subst (λ (r : Rule). FirstFault file bytes at r) (sym by) there))
@@ -299,16 +301,3 @@ free_of (Some files) paths = λ read are at. tt
 -- one more was kept
 pub one_longer : {X : Type 0} (kept more : List X) (x : X) (n : ℕ) → more ≡ kept ++ (x ∷ []) → length kept ≡ n → length more ≡ n + 1
 one_longer kept more x n added is = omega (arith, ap length added, length-append kept (x ∷ []))
-
--- what one more file adds
-
-pub finds_none : (sources : List (List ℕ)) (diags : List Diag) (bytes : List ℕ) (file : ℕ) (found : Option Diag) → found ≡ None → FileFinds file bytes found → file ≡ length sources → Finds sources diags → Finds (sources ++ (bytes ∷ [])) diags
-finds_none sources diags bytes file found none finds is so =
-    clean_file sources diags bytes so (subst (λ (n : ℕ). FileFinds n bytes None) is (subst (FileFinds file bytes) none finds))
-
-pub finds_one : (sources : List (List ℕ)) (diags more : List Diag) (bytes : List ℕ) (file : ℕ) (found : Option Diag) (diag : Diag) → found ≡ Some diag → more ≡ diags ++ (diag ∷ []) → FileFinds file bytes found → file ≡ length sources → Finds sources diags → Finds (sources ++ (bytes ∷ [])) more
-finds_one sources diags more bytes file found diag some added finds is so =
-    subst (Finds (sources ++ (bytes ∷ []))) (sym added) (faulty_file sources diags bytes diag so (subst (λ (n : ℕ). FileFinds n bytes (Some diag)) is (subst (FileFinds file bytes) some finds)))
-
-pub none_in : (file : ℕ) (diags : List Diag) → diags ≡ [] → All (λ (diag : Diag). diag.pos.file < file) diags
-none_in file diags none = subst (All (λ (diag : Diag). diag.pos.file < file)) (sym none) (λ k d lt. absurd (omega arith))

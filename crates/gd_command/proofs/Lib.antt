@@ -1,6 +1,7 @@
 mod CallLemmas
 mod CheckLemmas
 mod Close
+mod JudgeLemmas
 mod LinesLemmas
 mod PutsLemmas
 mod RunLemmas

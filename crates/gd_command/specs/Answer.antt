@@ -8,7 +8,7 @@ use Rattle.gd_meaning.specs.declared.Statement.{Statement}
 use Rattle.gd_meaning.specs.Source.{IsSource}
 use Rattle.gd_meaning.specs.Run.{events_of}
 use Rattle.gd_command.specs.Output.{usage_line, printed}
-use Rattle.gd_command.specs.Report.{diag_line, report_status}
+use Rattle.gd_command.specs.Report.{report_status, report_text}
 use Rattle.gd_command.specs.declared.answer.Answer.{Answer}
 use Rattle.gd_command.specs.declared.answer.Answer.TheVariants.{Usage, ListFault, ReadFault, NotBuilt, Runs, TooManyFiles, LongFile, LongProject, Checked}
 use Rattle.gd_command.specs.declared.status.Status.{Status}
@@ -24,7 +24,7 @@ answer_text (Runs statements) = flat_map printed (flat_map events_of statements)
 answer_text TooManyFiles = codes "too large: files\n"
 answer_text (LongFile path) = codes "too large: file " ++ (path ++ (10 ∷ []))
 answer_text LongProject = codes "too large: project\n"
-answer_text (Checked report) = flat_map (diag_line report.paths) report.diags
+answer_text (Checked report) = report_text report
 
 -- its status
 abbrev pub answer_status : Answer → Status

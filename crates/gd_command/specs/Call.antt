@@ -28,7 +28,7 @@ pub record IsOnly (scripts : List File) (main path : List ℕ) : Type 0 where
 
 -- the scripts that a command reads
 abbrev pub Reads : List File → Command → List ℕ → Type 0
-Reads files Check path = IsReached (scripts files) path
+Reads files (Check _) path = IsReached (scripts files) path
 Reads files (Run main) path = IsOnly (scripts files) main path
 
 -- the words are a command that reads the script with this path

@@ -2,6 +2,7 @@ pub mod Answer
 pub mod Call
 pub mod Check
 pub mod Close
+pub mod Judged
 pub mod Lines
 pub mod Output
 pub mod Puts

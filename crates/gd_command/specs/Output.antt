@@ -9,8 +9,11 @@ use Rattle.gd_meaning.specs.declared.Statement.{Statement}
 use Rattle.gd_meaning.specs.Source.{IsSource}
 use Rattle.gd_meaning.specs.Run.{Run as Runs}
 use Rattle.gd_rules.specs.declared.diag.Diag.{Diag}
-use Rattle.gd_command.specs.Report.{Finds, diag_line, report_status}
+use Rattle.gd_rules.specs.declared.diag.Mark.{Mark}
+use Rattle.gd_command.specs.Judged.{CheckFinds}
+use Rattle.gd_command.specs.Report.{report_status, report_text}
 use Rattle.gd_command.specs.Words.{Means}
+use Rattle.gd_command.specs.declared.words.CheckOptions.{CheckOptions}
 use Rattle.gd_command.specs.declared.words.Command.{Command}
 use Rattle.gd_command.specs.declared.words.Command.TheVariants.{Check, Run}
 use Rattle.gd_command.specs.declared.status.Status.{Status}
@@ -56,15 +59,15 @@ pub record FitsLimits (scripts : List File) : Type 0 where
   pub small : total scripts ≤ 4194304
 
 -- `check` of these scripts: the first limit that is passed, else a line for each place that was found
-pub data CheckOutput (scripts : List File) : List ℕ → Status → Type 0 where
-  many_files : 1024 < length scripts → CheckOutput scripts (codes "too large: files\n") TooLarge
-  long_file : (before after : List File) (file : File) → length scripts ≤ 1024 → scripts ≡ before ++ (file ∷ after) → All IsShort before → 1048576 < length file.1 → CheckOutput scripts (codes "too large: file " ++ (file.0 ++ (10 ∷ []))) TooLarge
-  long_project : length scripts ≤ 1024 → All IsShort scripts → 4194304 < total scripts → CheckOutput scripts (codes "too large: project\n") TooLarge
-  checked : (diags : List Diag) → FitsLimits scripts → Finds (sources_of scripts) diags → CheckOutput scripts (flat_map (diag_line (paths_of scripts)) diags) (report_status diags)
+pub data CheckOutput (options : CheckOptions) (scripts : List File) : List ℕ → Status → Type 0 where
+  many_files : 1024 < length scripts → CheckOutput options scripts (codes "too large: files\n") TooLarge
+  long_file : (before after : List File) (file : File) → length scripts ≤ 1024 → scripts ≡ before ++ (file ∷ after) → All IsShort before → 1048576 < length file.1 → CheckOutput options scripts (codes "too large: file " ++ (file.0 ++ (10 ∷ []))) TooLarge
+  long_project : length scripts ≤ 1024 → All IsShort scripts → 4194304 < total scripts → CheckOutput options scripts (codes "too large: project\n") TooLarge
+  checked : (diags : List Diag) (marks : List Mark) → FitsLimits scripts → CheckFinds options (sources_of scripts) diags marks → CheckOutput options scripts (report_text (record { paths = paths_of scripts; diags = diags; marks = marks })) (report_status diags)
 
 -- what a command writes
 abbrev pub CommandOutput : List File → Command → List ℕ → Status → Type 0
-CommandOutput files Check = CheckOutput (scripts files)
+CommandOutput files (Check options) = CheckOutput options (scripts files)
 CommandOutput files (Run main) = RunOutput files main
 
 -- the line that says which words there are

@@ -1,11 +1,8 @@
-//! `check`: reads the scripts of the project and finds their faults.
+//! `check`: reads the scripts of the project, and has them judged.
 ghost use Rattle.std.specs.Prelude.{◌≡◌, ◌≢◌, ◌≤◌, ◌<◌, ◌+◌, ◌++◌, ◌∷◌, [], ℕ, List, All, IfOk, IfErr, IfSome, Some, OnOk, MatchResult, length};
 ghost use Rattle.gd_outside.specs.Cause.{Rose};
 ghost use Rattle.gd_outside.specs.Files.{File, bytes_at, paths_of};
-ghost use Rattle.gd_grammar.specs.Fault.{StandsAt};
-ghost use Rattle.gd_rules.specs.declared.diag.Diag.{Diag};
 ghost use Rattle.gd_command.specs.Output.{CheckOutput, scripts as scripts_of};
-ghost use Rattle.gd_command.specs.Report.{FileFinds, Finds};
 ghost use Rattle.gd_command.specs.Answer.{IsAnswer, IsFaultOf};
 ghost use Rattle.gd_command.specs.Call.{IsReached};
 ghost use Rattle.gd_command.specs.Check.{AreAt, AreRead, Hinders, IsFailed, IsShortSource, Stops, bytes_of};
@@ -14,13 +11,10 @@ ghost use Rattle.gd_command.specs.declared.answer.Answer.TheVariants.{Usage};
 ghost use Rattle.gd_command.specs.declared.check.Unread.TheVariants.{NoMemory as UnreadNoMemory};
 
 use crate::answer::Answer;
+use crate::judge::judge;
 use crate::project::{MAX_SOURCE, keep_scripts};
-use crate::report::Report;
-use gd_grammar::{SyntaxFault, parse};
-use gd_lexer::{LexFault, lex};
+use crate::words::CheckOptions;
 use gd_outside::{Path, Shelf, ShelfFault};
-use gd_rules::Diag;
-use gd_syntax::Token;
 use no_memory::NoMemory;
 use std::alloc::{AllocError, AllocFailed, Global};
 
@@ -59,8 +53,12 @@ impl<T: Drop> From<AllocFailed<T>> for Unread {
 }
 
 /// What `check` of the project answers.
-pub fn check<H: Shelf>(alloc: Global, shelf: &mut H) -> Result<Answer, NoMemory>
-    ensures told { IfSome (H.files shelf.old) (λ files. IfOk result (IsAnswer (CheckOutput (scripts_of files)) (IsReached (scripts_of files)) files (H.failed shelf.new))) }
+pub fn check<H: Shelf>(
+    alloc: Global,
+    options: CheckOptions,
+    shelf: &mut H,
+) -> Result<Answer, NoMemory>
+    ensures told { IfSome (H.files shelf.old) (λ files. IfOk result (IsAnswer (CheckOutput options (scripts_of files)) (IsReached (scripts_of files)) files (H.failed shelf.new))) }
     ensures no_usage { IfOk result (λ answer. answer ≢ Usage) }
     ensures faults { H.faults shelf.old ≤ H.faults shelf.new }
     ensures cause { IfOk result (λ answer. IsFaultOf answer → Rose (H.faults shelf.old) (H.faults shelf.new)) }
@@ -75,7 +73,7 @@ pub fn check<H: Shelf>(alloc: Global, shelf: &mut H) -> Result<Answer, NoMemory>
         return Ok(Answer::TooManyFiles);
     }
     match read_scripts(alloc, &paths, shelf) {
-        Ok(sources) => Ok(Answer::Checked(judge(alloc, paths, &sources)?)),
+        Ok(sources) => Ok(Answer::Checked(judge(alloc, options, paths, &sources)?)),
         Err(Unread::Failed(path)) => Ok(Answer::ReadFault(path)),
         Err(Unread::LongFile(path)) => Ok(Answer::LongFile(path)),
         Err(Unread::LongProject) => Ok(Answer::LongProject),
@@ -144,74 +142,4 @@ fn read_script<H: Shelf>(alloc: Global, path: &Path, shelf: &mut H) -> Result<Ve
         return Err(Unread::LongFile(path.clone()?));
     }
     Ok(source)
-}
-
-/// The report on the scripts with these paths and bytes.
-fn judge(alloc: Global, paths: Vec<Path>, sources: &[Vec<u8>]) -> Result<Report, NoMemory>
-    requires few { length sources.now ≤ 1024 }
-    requires short { All IsShortSource sources.now }
-    requires count { length sources.now ≡ length paths.items }
-    ensures paths { IfOk result (λ report. report.paths ≡ paths.items) }
-    ensures finds { IfOk result (λ report. Finds (bytes_of sources.now) report.diags) }
-{
-    let diags = find_faults(alloc, sources)?;
-    Ok(Report::new(paths, diags))
-}
-
-/// The first fault of each script that has one.
-fn find_faults(alloc: Global, sources: &[Vec<u8>]) -> Result<Vec<Diag>, NoMemory>
-    requires few { length sources.now ≤ 1024 }
-    requires short { All IsShortSource sources.now }
-    ensures finds { IfOk result (λ diags. Finds (bytes_of sources.now) diags.items) }
-    ensures files { IfOk result (λ diags. All (λ diag. diag.pos.file < length sources.now) diags.items) }
-{
-    let mut diags = Vec::new(alloc);
-    let mut file = 0;
-    for source in sources {
-        find_fault(alloc, file, source, &mut diags)?;
-        file += 1;
-    }
-    Ok(diags)
-}
-
-/// Adds the first fault of the script with this number, where it has one.
-fn find_fault(
-    alloc: Global,
-    file: u32,
-    source: &[u8],
-    diags: &mut Vec<Diag>,
-) -> Result<(), NoMemory>
-    requires { length source.now ≤ 1_048_576 }
-    ensures finds { OnOk result ((sources : List (List ℕ)) → file ≡ length sources → Finds sources diags.old.items → Finds (sources ++ (source.now ∷ [])) diags.new.items) }
-    ensures files { OnOk result (All (λ diag. diag.pos.file < file) diags.old.items → All (λ diag. diag.pos.file < file + 1) diags.new.items) }
-{
-    if let Some(diag) = first_fault(alloc, file, source)? {
-        diags.push(diag)?;
-    }
-    Ok(())
-}
-
-/// The first fault of the file with this number: a lexical one before one of syntax.
-fn first_fault(alloc: Global, file: u32, source: &[u8]) -> Result<Option<Diag>, NoMemory>
-    requires { length source.now ≤ 1_048_576 }
-    ensures finds { IfOk result (FileFinds file source.now) }
-    ensures file { IfOk result (λ found. IfSome found (λ diag. diag.pos.file ≡ file)) }
-{
-    match lex(alloc, file, source) {
-        Ok(tokens) => syntax_fault(alloc, &tokens),
-        Err(LexFault::Fault(pos, rule)) => Ok(Some(Diag { pos, rule })),
-        Err(LexFault::NoMemory) => Err(NoMemory),
-    }
-}
-
-/// A place at which these tokens are no script.
-fn syntax_fault(alloc: Global, tokens: &[Token]) -> Result<Option<Diag>, NoMemory>
-    requires { 0 < length tokens.now }
-    ensures { IfOk result (λ found. IfSome found (λ diag. (k : ℕ) × StandsAt tokens.now k diag.pos diag.rule)) }
-{
-    match parse(alloc, tokens) {
-        Ok(_) => Ok(None),
-        Err(SyntaxFault::Fault(pos, rule)) => Ok(Some(Diag { pos, rule })),
-        Err(SyntaxFault::NoMemory) => Err(NoMemory),
-    }
 }

@@ -3,6 +3,7 @@
 
 mod answer;
 mod check;
+mod judge;
 mod machine;
 mod print;
 mod project;
@@ -12,8 +13,6 @@ mod severity;
 mod source;
 mod status;
 mod stream;
-#[cfg(test)]
-mod tests;
 mod top;
 mod words;
 

@@ -5,15 +5,17 @@ ghost use Rattle.gd_outside.specs.Cause.{HasCause};
 ghost use Rattle.gd_outside.specs.declared.sink.SinkFault.TheVariants.{Failed};
 ghost use Rattle.gd_command.specs.Puts.{Puts};
 ghost use Rattle.gd_command.specs.Answer.{answer_status, answer_text};
-ghost use Rattle.gd_command.specs.Report.{diag_line, path_at, report_status, severity_of, severity_word};
+ghost use Rattle.gd_command.specs.Report as spec;
+ghost use Rattle.gd_command.specs.Report.{diag_line, mark_line, path_at, report_status, report_text, severity_of, severity_word};
 ghost use Rattle.gd_rules.specs.Rule.{rule_code, rule_text};
 
 use crate::answer::Answer;
-use crate::severity::Severity;
+use crate::report::Report;
+use crate::severity::{Severity, has_error};
 use crate::status::Status;
 use crate::stream::stream;
 use gd_outside::{Path, Sink, SinkFault};
-use gd_rules::{Diag, Rule};
+use gd_rules::{Diag, Mark, Rule};
 use itoa::Buffer;
 use std::alloc::Global;
 
@@ -37,7 +39,7 @@ pub fn perform<K: Sink>(alloc: Global, answer: &Answer, out: &mut K) -> Result<S
         Answer::TooManyFiles => say(b"too large: files\n", Status::TooLarge, out),
         Answer::LongFile(path) => say_of(b"too large: file ", path.bytes(), Status::TooLarge, out),
         Answer::LongProject => say(b"too large: project\n", Status::TooLarge, out),
-        Answer::Checked(report) => print_report(report.paths(), report.diags(), out),
+        Answer::Checked(report) => print_report(report, out),
     }
 }
 
@@ -67,14 +69,30 @@ fn say_of<K: Sink>(
     Ok(status)
 }
 
-/// Writes what a check found in the scripts with these paths, and answers the status that it gives.
-fn print_report<K: Sink>(paths: &[Path], diags: &[Diag], out: &mut K) -> Result<Status, SinkFault>
-    requires { All (λ diag. diag.pos.file < length paths.now) diags.now }
-    ensures puts { Puts (K.contents out.old) (flat_map (diag_line paths.now) diags.now) (K.contents out.new) result }
+/// Writes what a check found, and answers the status that it gives.
+fn print_report<K: Sink>(report: &Report, out: &mut K) -> Result<Status, SinkFault>
+    ensures puts { Puts (K.contents out.old) (report_text report.now) (K.contents out.new) result }
+    ensures status { IfOk result (λ status. status ≡ report_status report.now.diags) }
+    ensures cause { HasCause (K.faults out.old) (K.faults out.new) result Failed }
+{
+    print_found(report.paths(), report.diags(), report.marks(), out)
+}
+
+/// Writes the lines of what was found in the scripts with these paths, and answers the status that it gives.
+fn print_found<K: Sink>(
+    paths: &[Path],
+    diags: &[Diag],
+    marks: &[Mark],
+    out: &mut K,
+) -> Result<Status, SinkFault>
+    requires diags_within { All (λ diag. diag.pos.file < length paths.now) diags.now }
+    requires marks_within { All (λ mark. mark.pos.file < length paths.now) marks.now }
+    ensures puts { Puts (K.contents out.old) (flat_map (diag_line paths.now) diags.now ++ flat_map (mark_line paths.now) marks.now) (K.contents out.new) result }
     ensures status { IfOk result (λ status. status ≡ report_status diags.now) }
     ensures cause { HasCause (K.faults out.old) (K.faults out.new) result Failed }
 {
     print_diags(paths, diags, out)?;
+    print_marks(paths, marks, out)?;
     Ok(status_of(diags))
 }
 
@@ -82,11 +100,36 @@ fn print_report<K: Sink>(paths: &[Path], diags: &[Diag], out: &mut K) -> Result<
 fn status_of(diags: &[Diag]) -> Status
     ensures { result ≡ report_status diags.now }
 {
-    if diags.is_empty() {
-        Status::Done
-    } else {
+    if has_error(diags) {
         Status::Faulty
+    } else {
+        Status::Done
     }
+}
+
+/// Writes the lines of marks in the scripts with these paths.
+fn print_marks<K: Sink>(paths: &[Path], marks: &[Mark], out: &mut K) -> Result<(), SinkFault>
+    requires { All (λ mark. mark.pos.file < length paths.now) marks.now }
+    ensures puts { Puts (K.contents out.old) (flat_map (mark_line paths.now) marks.now) (K.contents out.new) result }
+    ensures cause { HasCause (K.faults out.old) (K.faults out.new) result Failed }
+{
+    for mark in marks {
+        print_mark(paths, mark, out)?;
+    }
+    Ok(())
+}
+
+/// Writes the line of a mark.
+fn print_mark<K: Sink>(paths: &[Path], mark: &Mark, out: &mut K) -> Result<(), SinkFault>
+    requires { mark.now.pos.file < length paths.now }
+    ensures puts { Puts (K.contents out.old) (mark_line paths.now mark.now) (K.contents out.new) result }
+    ensures cause { HasCause (K.faults out.old) (K.faults out.new) result Failed }
+{
+    let Mark { pos } = *mark;
+    print_path(paths, pos.file, out)?;
+    print_number(pos.line, out)?;
+    print_number(pos.column, out)?;
+    put(b": mark\n", out)
 }
 
 /// Writes the lines of diagnostics in the scripts with these paths.

@@ -1,8 +1,9 @@
 //! How much a diagnostic weighs.
 ghost use Rattle.std.specs.Prelude.{◌≡◌};
+ghost use Rattle.std.specs.List.{list_any};
 ghost use Rattle.gd_command.specs.Report as spec;
 
-use gd_rules::Rule;
+use gd_rules::{Diag, Rule};
 
 /// The weight of a diagnostic: only errors make a project faulty.
 #[derive(Clone, Copy, Debug, PartialEq, Eq)]
@@ -26,6 +27,13 @@ impl Severity {
         }
     }
 
+    /// Whether it makes a project faulty.
+    pub fn is_error(self) -> bool
+        ensures { result ≡ spec.is_heavy self }
+    {
+        matches!(self, Severity::Error)
+    }
+
     /// The word for it in a line.
     pub fn word(self) -> &'static str
         ensures { result.now ≡ spec.severity_word self }
@@ -35,4 +43,11 @@ impl Severity {
             Severity::Warning => "warning",
         }
     }
+}
+
+/// Whether one of them is an error.
+pub fn has_error(diags: &[Diag]) -> bool
+    ensures { result ≡ list_any spec.is_error diags.now }
+{
+    diags.iter().any(|diag| Severity::of(diag.rule).is_error())
 }

@@ -61,7 +61,7 @@ fn decide<H: Shelf>(alloc: Global, words: &[String], shelf: &mut H) -> Result<An
         Err(WordsFault::NoMemory) => return Err(NoMemory),
     };
     match command {
-        Command::Check => check(alloc, shelf),
+        Command::Check(options) => check(alloc, options, shelf),
         Command::Run(main) => run(alloc, main, shelf),
     }
 }

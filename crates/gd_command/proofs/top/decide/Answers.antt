@@ -7,7 +7,7 @@ pub returns-in-Run-clause-told : goal.returns-in-Run-clause-told
 returns-in-Run-clause-told g c = told-run (g.H.Shelf.files c.args.shelf.now) (words_of c.args.words.now) _ _ c.run.result (search rules) c.run.ensures.told
 
 pub returns-in-Check-clause-told : goal.returns-in-Check-clause-told
-returns-in-Check-clause-told g c = told-check (g.H.Shelf.files c.args.shelf.now) (words_of c.args.words.now) _ c.check.result (search rules) c.check.ensures.told
+returns-in-Check-clause-told g c = told-check (g.H.Shelf.files c.args.shelf.now) (words_of c.args.words.now) _ _ c.check.result (search rules) c.check.ensures.told
 
 pub returns-in-Err-NoForm-clause-told : goal.returns-in-Err-NoForm-clause-told
 returns-in-Err-NoForm-clause-told g c = told-usage (g.H.Shelf.files c.args.shelf.now) (words_of c.args.words.now) (c.in-Err-NoForm.ensures.no_form (ap Err c.in-Err-NoForm.field-0-is))

@@ -1,0 +1,138 @@
+#!/usr/bin/env python3
+"""Calls the program where the outside fails: folders that cannot be listed, a script that cannot be read, an output that
+takes no more.
+
+usage: outside_faults.py GD      GD is the program, e.g. crates/gd_command/out/gd_command
+
+The rows on rights need the rights of root, under which the program is run as a user who may not read; without these
+rights they are passed over, which is said. The last line is 'N passed, M failed'.
+"""
+import os
+import pathlib
+import shutil
+import subprocess
+import sys
+from typing import Dict, List, NamedTuple
+
+sys.path.insert(0, str(pathlib.Path(__file__).resolve().parent.parent / "tools"))
+from program import LIMIT, Answer, Tally, named, project, run
+
+NOBODY = 65534
+WRITE_FAULT = 6
+LIST_FAULT = Answer(5, b"read fault: list\n")
+CLEAN = Answer(0, b"")
+FAULTY = {"main.gd": b"print(1.5)"}
+PRINTS = {"main.gd": b"func test():\n\tprint(42)\n"}
+
+
+class Listing(NamedTuple):
+    what: str
+    # a path of the project, as bytes
+    path: bytes
+    wanted: Answer
+
+
+LISTINGS = [
+    Listing("a name that is not UTF-8", b"\xff.gd", LIST_FAULT),
+    Listing("such a name of no script", b"\xff.txt", LIST_FAULT),
+    Listing("such a name behind a dot", b".hidden/\xff.gd", CLEAN),
+    Listing("32 levels of folders", b"d/" * 32 + b"a.gd", CLEAN),
+    Listing("33 levels of folders", b"d/" * 33 + b"a.gd", LIST_FAULT),
+    Listing("a path of more than 1,024 bytes", (b"d" * 200 + b"/") * 5 + b"e" * 20 + b".gd", LIST_FAULT),
+]
+
+
+class Unwritten(NamedTuple):
+    what: str
+    words: List[str]
+    files: Dict[str, bytes]
+    status: int
+
+
+UNWRITTEN = [
+    Unwritten("a diagnostic", ["check"], FAULTY, WRITE_FAULT),
+    Unwritten("a printed line", ["run", "main.gd"], PRINTS, WRITE_FAULT),
+    Unwritten("the usage line", ["walk"], {}, WRITE_FAULT),
+    Unwritten("nothing to write", ["check"], PRINTS, 0),
+]
+
+
+def try_listings(program, tally):
+    """Checks projects with one file at a path that only bytes can name."""
+    for row in LISTINGS:
+        with project({}) as folder:
+            place = os.path.join(os.fsencode(folder), row.path)
+            os.makedirs(os.path.dirname(place), exist_ok=True)
+            with open(place, "wb"):
+                pass
+            found = run(program, ["check"], folder)
+        tally.expect(found == row.wanted, f"{row.what}: {found}, where wanted is {row.wanted}")
+
+
+def try_links(program, tally):
+    """A link is followed nowhere, so it is no script, and a main script behind one cannot be read."""
+    with project({"other/a.gd": b"print(1.5)"}) as folder:
+        outside = pathlib.Path(folder, "game")
+        outside.mkdir()
+        (outside / "link.gd").symlink_to("../other/a.gd")
+        (outside / "folder").symlink_to("../other")
+        found = run(program, ["check"], outside)
+    tally.expect(found == CLEAN, f"links to a file and to a folder: {found}, where wanted is {CLEAN}")
+
+
+def as_nobody(program, folder):
+    """The answer of `check` to a user who may read only what others may."""
+    how = {"cwd": folder, "stdin": subprocess.DEVNULL, "capture_output": True, "user": NOBODY, "group": NOBODY, "extra_groups": []}
+    ended = subprocess.run([str(program), "check"], timeout=LIMIT, **how)
+    return Answer(ended.returncode, ended.stdout, ended.stderr)
+
+
+def try_rights(program, tally):
+    """Checks a project with a script, and one with a folder, that may not be read."""
+    if os.geteuid() != 0:
+        print("rights: passed over, since only root can run the program as another user")
+        return
+    unread = Answer(5, b"read fault: b.gd\n")
+    for path, wanted in [("a.gd", CLEAN), ("b.gd", unread), ("inner", LIST_FAULT)]:
+        with project({"a.gd": b"", "b.gd": b"", "inner/c.gd": b""}) as folder:
+            os.chmod(folder, 0o755)
+            copied = shutil.copy(program, os.path.join(folder, ".gd_program"))
+            os.chmod(copied, 0o755)
+            if path != "a.gd":
+                os.chmod(os.path.join(folder, path), 0)
+            found = as_nobody(copied, folder)
+            os.chmod(os.path.join(folder, path), 0o755)
+        tally.expect(found == wanted, f"without the right to read {path}: {found}, where wanted is {wanted}")
+
+
+def status_into(program, row, out):
+    """The status of a call whose output goes to this file."""
+    with project(row.files) as folder:
+        how = {"cwd": folder, "stdin": subprocess.DEVNULL, "stderr": subprocess.DEVNULL}
+        return subprocess.run([str(program), *row.words], timeout=LIMIT, stdout=out, **how).returncode
+
+
+def try_outputs(program, tally):
+    """Calls with an output on a full device, and with one that nobody reads."""
+    for row in UNWRITTEN:
+        with open("/dev/full", "wb") as full:
+            status = status_into(program, row, full)
+        tally.expect(status == row.status, f"{row.what} to a full device: status {status}, where wanted is {row.status}")
+        reads, writes = os.pipe()
+        os.close(reads)
+        with open(writes, "wb") as closed:
+            status = status_into(program, row, closed)
+        tally.expect(status == row.status, f"{row.what} to a closed pipe: status {status}, where wanted is {row.status}")
+
+
+def main():
+    program, tally = named(sys.argv[1]), Tally()
+    try_listings(program, tally)
+    try_links(program, tally)
+    try_rights(program, tally)
+    try_outputs(program, tally)
+    tally.end()
+
+
+if __name__ == "__main__":
+    main()
