@@ -1,4 +1,5 @@
--- Assignments: the parts of the target from left to right, in a compound one the old value, then the right side, and the write.
+-- Assignments: the parts of the target from left to right, in a compound one the old value, then the right side, and
+-- the write.
 use Rattle.std.specs.Prelude.{ℕ, List, ◌∷◌, Option, None, Some, bytes_eq, if◌then◌else◌}
 use Rattle.std.specs.List.{list_any}
 use Rattle.gd_members.specs.declared.Found.{Found}
@@ -6,51 +7,51 @@ use Rattle.gd_members.specs.declared.Found.TheVariants as found
 use Rattle.gd_model.specs.Datum.{Datum}
 use Rattle.gd_syntax.specs.declared.operator.Operator.{Operator}
 use Rattle.gd_syntax.specs.declared.pos.Pos.{Pos}
-use Rattle.gd_syntax.specs.declared.tree.decl.DeclKind.{DeclKind}
-use Rattle.gd_syntax.specs.declared.tree.decl.DeclKind.TheVariants as decl
-use Rattle.gd_syntax.specs.declared.tree.expr.Expr.{Expr}
-use Rattle.gd_syntax.specs.declared.tree.expr.ExprKind.TheOpen.{ExprKind-F}
-use Rattle.gd_syntax.specs.declared.tree.stmt.VarDecl.{out-VarDecl}
-use Rattle.assignability.specs.Fits.{fits}
+use Rattle.syntax_trees.specs.Declarations.{DeclKind}
+use Rattle.syntax_trees.specs.Declarations as decl
+use Rattle.syntax_trees.specs.Expressions.{Expr, Text, expr}
+use Rattle.syntax_trees.specs.Expressions as e
 use Rattle.source_semantics.specs.Attributes.{read_attribute, read_index, store_variable, write_attribute, write_index, write_static, write_variable}
 use Rattle.source_semantics.specs.Expressions.{Context, bare_name, class_meant, evaluate, member_at, of_class, operate, self, self_serial}
-use Rattle.source_semantics.specs.Places.{Layer, layer, place}
-use Rattle.source_semantics.specs.Project.{Member, Text, Variable, bases}
+use Rattle.source_semantics.specs.Project.{Member, Variable, bases, is_static, name_of}
 use Rattle.source_semantics.specs.State.{Local, Run, Went, local, set_local, settled, store, tested, then_do, went}
+use Rattle.source_semantics.specs.Types.{fits_type}
 
 -- a value is tested against the type of the place that the analysis knows, at the assignment's operator
-abbrev pub test_known : Context → Pos → Expr → Datum → Run → Went (Unit {0})
-test_known c at target v r = tested at (fits (bases c.project) (store r) (c.project.typed (place target)) v) r
+abbrev pub test_known : Context → Pos → Pos → Datum → Run → Went (Unit {0})
+test_known c at target v r = tested at (fits_type (bases c.project) (store r) (c.project.typed target) v) r
 
 -- ---- bare names: the whole write stands at the operator
 
+-- a variable by its bare name: in its own accessor it is the variable itself
+abbrev pub write_bare : Context → Pos → List Datum → Run → Datum → Variable → Went (Unit {0})
+write_bare c at hand r v x =
+    let s = self_serial (self c.frame) in
+    if is_static x then write_static c.project at hand r x v
+    else if list_any (bytes_eq (name_of x)) c.frame.direct then store_variable c.project at hand r s x v
+    else write_variable c.project c.meaning c.frame at hand r s x v
+
+abbrev pub write_kind : Context → Pos → List Datum → Run → Datum → ℕ → DeclKind → Went (Unit {0})
+write_kind c at hand r v class (decl.variable x) = write_bare c at hand r v (record { class = class; decl = x })
+write_kind c at hand r v class _ = went tt r
+
 abbrev pub write_member : Context → Pos → List Datum → Run → Datum → Option Member → Went (Unit {0})
 write_member c at hand r v None = went tt r
-write_member c at hand r v (Some m) = in_kind m.class m.kind
-  where
-    of_instance : Variable → Went (Unit {0})
-    of_instance x =
-        if list_any (bytes_eq (out-VarDecl x.decl).name) c.frame.direct then store_variable c.project at hand r (self_serial (self c.frame)) x v
-        else write_variable c.project c.meaning c.frame at hand r (self_serial (self c.frame)) x v
-
-    of_variable : Variable → Went (Unit {0})
-    of_variable x = if (out-VarDecl x.decl).is_static then write_static c.project at hand r x v else of_instance x
-
-    in_kind : ℕ → DeclKind → Went (Unit {0})
-    in_kind class (decl.Var x) = of_variable (record { class = class; decl = x })
-    in_kind class _ = went tt r
+write_member c at hand r v (Some m) = write_kind c at hand r v m.class m.kind
 
 abbrev pub write_global : Context → Pos → List Datum → Run → Datum → Found → Went (Unit {0})
 write_global c at hand r v (found.Member id) = write_member c at hand r v (member_at c.project id)
 write_global c at hand r v _ = went tt r
 
+abbrev pub write_local_or_global : Context → Pos → Pos → List Datum → Run → Text → Datum → Option Local
+    → Went (Unit {0})
+write_local_or_global c at pos hand r name v (Some l) = went tt
+    (settled hand (record r { blocks = set_local name v r.blocks }))
+write_local_or_global c at pos hand r name v None = write_global c at hand r v (c.project.found pos)
+
 -- a local takes the value, and its old one is given up
 abbrev pub write_name : Context → Pos → Pos → List Datum → Run → Text → Datum → Went (Unit {0})
-write_name c at pos hand r name v = by_local (local r.blocks name)
-  where
-    by_local : Option Local → Went (Unit {0})
-    by_local (Some l) = went tt (settled hand (record r { blocks = set_local name v r.blocks }))
-    by_local None = write_global c at hand r v (c.project.found pos)
+write_name c at pos hand r name v = write_local_or_global c at pos hand r name v (local r.blocks name)
 
 -- ---- the value that is written
 
@@ -64,8 +65,10 @@ abbrev pub old_value : Option Operator → Went Datum → Run → Went (Option D
 old_value (Some op) read r = then_do read (λ v r. went (Some v) r)
 old_value None read r = went None r
 
--- `read` gives the old value, and `write` writes the new one, after the test that the analysis foresaw
-abbrev pub assigned : Context → Pos → Expr → List Datum → Option Operator → Expr → Run → Went Datum → (Datum → Run → Went (Unit {0})) → Went (Unit {0})
+-- `read` gives the old value, and `write` writes the new one, after the test that the analysis foresaw; with the places
+-- of the operator and of the target
+abbrev pub assigned : Context → Pos → Pos → List Datum → Option Operator → Expr → Run → Went Datum
+    → (Datum → Run → Went (Unit {0})) → Went (Unit {0})
 assigned c at target hand op value r read write =
     then_do (old_value op read r) (λ old r.
     then_do (new_value c at hand op old value r) (λ v r.
@@ -73,28 +76,26 @@ assigned c at target hand op value r read write =
 
 -- ---- targets
 
-abbrev pub assign_attribute : Context → Pos → Expr → Pos → List Datum → Run → Option Operator → Expr → Expr → Text → Option ℕ → Went (Unit {0})
-assign_attribute c at target pos hand r op value x name (Some class) =
-    then_do (evaluate c hand r x) (λ _ r.
-    assigned c at target hand op value r (of_class c pos hand r) (λ v r. write_global c pos hand r v (c.project.found pos)))
-assign_attribute c at target pos hand r op value x name None =
-    then_do (evaluate c hand r x) (λ base r.
-    assigned c at target (base ∷ hand) op value r
+abbrev pub assign_attribute : Context → Pos → Pos → List Datum → Option Operator → Expr → Text → Option ℕ → Went Datum
+    → Went (Unit {0})
+assign_attribute c at pos hand op value name (Some class) base =
+    then_do base (λ _ r. assigned c at pos hand op value r (of_class c pos hand r)
+    (λ v r. write_global c pos hand r v (c.project.found pos)))
+assign_attribute c at pos hand op value name None base =
+    then_do base (λ base r.
+    assigned c at pos (base ∷ hand) op value r
     (read_attribute c.project c.meaning c.frame pos (base ∷ hand) r base name)
     (λ v r. write_attribute c.project c.meaning c.frame pos hand r base name v))
 
-abbrev pub assign_to : Context → Pos → Expr → List Datum → Run → Option Operator → Expr → Layer → Went (Unit {0})
-assign_to c at target hand r op value (ExprKind-F.Name name) =
-    assigned c at target hand op value r (bare_name c (place target) hand r name) (λ v r. write_name c at (place target) hand r name v)
-assign_to c at target hand r op value (ExprKind-F.Attr x name) =
-    assign_attribute c at target (place target) hand r op value x name (class_meant c.project x)
-assign_to c at target hand r op value (ExprKind-F.Index x i) =
-    then_do (evaluate c hand r x) (λ base r. then_do (evaluate c (base ∷ hand) r i) (λ index r.
-    assigned c at target (index ∷ base ∷ hand) op value r
-    (read_index (place target) (index ∷ base ∷ hand) r base index)
-    (λ v r. write_index c.project (place target) hand r base index v)))
-assign_to c at target hand r op value _ = went tt r
-
 -- an assignment, with the place of its operator
 abbrev pub assign : Context → Pos → List Datum → Run → Option Operator → Expr → Expr → Went (Unit {0})
-assign c at hand r op target value = assign_to c at target hand r op value (layer target)
+assign c at hand r op (expr pos (e.name name)) value =
+    assigned c at pos hand op value r (bare_name c pos hand r name) (λ v r. write_name c at pos hand r name v)
+assign c at hand r op (expr pos (e.attr x name)) value =
+    assign_attribute c at pos hand op value name (class_meant c.project x) (evaluate c hand r x)
+assign c at hand r op (expr pos (e.index x i)) value =
+    then_do (evaluate c hand r x) (λ base r. then_do (evaluate c (base ∷ hand) r i) (λ index r.
+    assigned c at pos (index ∷ base ∷ hand) op value r
+    (read_index pos (index ∷ base ∷ hand) r base index)
+    (λ v r. write_index c.project pos hand r base index v)))
+assign c at hand r op target value = went tt r

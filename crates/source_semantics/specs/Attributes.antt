@@ -8,16 +8,16 @@ use Rattle.gd_model.specs.declared.fault.RunFault.TheVariants.{BadOperands, NoSu
 use Rattle.gd_model.specs.declared.ty.Ty.{Ty}
 use Rattle.gd_model.specs.declared.ty.Ty.TheVariants.{Variant}
 use Rattle.gd_syntax.specs.declared.pos.Pos.{Pos}
-use Rattle.gd_syntax.specs.declared.tree.stmt.Accessor.{Accessor, out-Accessor}
-use Rattle.gd_syntax.specs.declared.tree.stmt.Accessor.TheOpen.{Accessor-F}
-use Rattle.gd_syntax.specs.declared.tree.stmt.VarDecl.{out-VarDecl}
-use Rattle.assignability.specs.Fits.{fits}
+use Rattle.syntax_trees.specs.Declarations.{Accessor, body, named}
+use Rattle.syntax_trees.specs.Expressions.{Text}
+use Rattle.syntax_trees.specs.Statements.{no_stmts}
 use Rattle.store_semantics.specs.Subscripts.{entry_written, item_written, subscript}
 use Rattle.store_semantics.specs.World.{Static, write}
-use Rattle.source_semantics.specs.Meaning.{Code, Frame, Meaning, Parameter, code_of}
+use Rattle.source_semantics.specs.Meaning.{Code, Entry, Frame, Meaning, Parameter, code_of}
 use Rattle.source_semantics.specs.Project as of_object
-use Rattle.source_semantics.specs.Project.{Attribute, Project, Text, Variable, attribute, bases, name_of, own_function, slot}
+use Rattle.source_semantics.specs.Project.{Attribute, Project, Variable, attribute, bases, name_of, own_function, slot}
 use Rattle.source_semantics.specs.State.{Run, Went, failed, gives, read_at, settled, store, tested, then_do, went}
+use Rattle.source_semantics.specs.Types.{fits_type}
 
 -- the class of the object with a serial number
 abbrev pub class_of : Run → ℕ → ℕ
@@ -34,28 +34,42 @@ values_of r s = values_behind (store r s)
 -- ---- accessors
 
 abbrev pub empty_code : ℕ → Text → Ty → Code
-empty_code class direct returns = record { class = class; parameters = []; returns = returns; body = []; direct = direct ∷ [] }
+empty_code class direct returns = record {
+  class = class;
+  parameters = [];
+  returns = returns;
+  body = no_stmts;
+  direct =
+      direct ∷ [];
+}
 
 abbrev pub named_code : Project → Variable → Option Code → Code
-named_code p v found = unwrap_or found (empty_code v.class (name_of v) (p.place_type (out-VarDecl v.decl).pos))
+named_code p v found = unwrap_or found (empty_code v.class (name_of v) (p.place_type v.decl.variable.pos))
 
--- the function of an accessor: its body, or the named function of the class that declares the variable. In it the variable's bare name
--- is the variable itself
+-- the function of an accessor: its body, or the named function of the class that declares the variable. In it the
+-- variable's bare name is the variable itself
 abbrev pub accessor_code : Project → Variable → Ty → (Text → Pos → List Parameter) → Accessor → Code
-accessor_code p v returns parameters x = elim (out-Accessor x) as (λ _. Code) [
-  | Accessor-F.Named name pos ↦ named_code p v (option_and_then (λ f. Some (code_of p f)) (own_function p v.class name))
-  | Accessor-F.Body parameter body pos tokens ↦ record { class = v.class; parameters = parameters (unwrap_or parameter []) pos; returns = returns; body = body; direct = name_of v ∷ [] }
-]
+accessor_code p v returns parameters (named name pos) =
+    named_code p v (option_and_then (λ f. Some (code_of p f)) (own_function p v.class name))
+accessor_code p v returns parameters (body parameter block pos tokens) = record {
+  class = v.class;
+  parameters = parameters (unwrap_or parameter []) pos;
+  returns = returns;
+  body = block;
+  direct = name_of v ∷ [];
+}
 
 abbrev pub type_of : Project → Variable → Ty
-type_of p v = p.place_type (out-VarDecl v.decl).pos
+type_of p v = p.place_type v.decl.variable.pos
 
 abbrev pub getter : Project → Variable → Option Code
-getter p v = option_and_then (λ x. Some (accessor_code p v (type_of p v) (λ _ _. []) x)) (out-VarDecl v.decl).getter
+getter p v = option_and_then (λ x. Some (accessor_code p v (type_of p v) (λ _ _. []) x)) v.decl.getter
 
 -- the parameter of a setter has the variable's type
 abbrev pub setter : Project → Variable → Option Code
-setter p v = option_and_then (λ x. Some (accessor_code p v Variant (λ name pos. record { name = name; at = pos; takes = type_of p v; default = None } ∷ []) x)) (out-VarDecl v.decl).setter
+setter p v = option_and_then (λ x. Some
+    (accessor_code p v Variant (λ name pos. record { name = name; at = pos; takes = type_of p v; default = None } ∷ [])
+    x)) v.decl.setter
 
 -- ---- an object's variables
 
@@ -63,34 +77,44 @@ setter p v = option_and_then (λ x. Some (accessor_code p v Variant (λ name pos
 abbrev pub stored : Project → Run → ℕ → Text → Datum
 stored p r s name = unwrap_or (option_and_then (slice_get (values_of r s)) (slot p (class_of r s) name)) null
 
+-- the call of an accessor
+abbrev pub access : Frame → Pos → ℕ → Code → List Datum → Entry
+access frame pos s code arguments =
+    record { code = code; receiver = Some (object s); arguments = arguments; depth = frame.depth; pos = pos }
+
+abbrev pub read_by : Project → Meaning → Frame → Pos → List Datum → Run → ℕ → Text → Option Code → Went Datum
+read_by p m frame pos hand r s name None = gives hand (stored p r s name) r
+read_by p m frame pos hand r s name (Some code) = m.enter (access frame pos s code []) hand r
+
 -- a variable of an object: by its getter where it has one
 abbrev pub read_variable : Project → Meaning → Frame → Pos → List Datum → Run → ℕ → Variable → Went Datum
-read_variable p m frame pos hand r s v = by_getter (getter p v)
-  where
-    by_getter : Option Code → Went Datum
-    by_getter None = gives hand (stored p r s (name_of v)) r
-    by_getter (Some code) = m.enter (record { code = code; receiver = Some (object s); arguments = []; depth = frame.depth; pos = pos }) hand r
+read_variable p m frame pos hand r s v = read_by p m frame pos hand r s (name_of v) (getter p v)
+
+abbrev pub put_in_slot : Run → ℕ → Datum → Option ℕ → Run
+put_in_slot r s value None = r
+put_in_slot r s value (Some i) =
+    record r { world = write r.world s (thing.object (class_of r s) (slice_set (values_of r s) i value)) }
 
 abbrev pub with_value : Project → Run → ℕ → Text → Datum → Run
-with_value p r s name value = in_slot (slot p (class_of r s) name)
-  where
-    in_slot : Option ℕ → Run
-    in_slot None = r
-    in_slot (Some i) = record r { world = write r.world s (thing.object (class_of r s) (slice_set (values_of r s) i value)) }
+with_value p r s name value = put_in_slot r s value (slot p (class_of r s) name)
 
 -- a value is put into a variable of an object without its accessors; the old value is given up
 abbrev pub store_variable : Project → Pos → List Datum → Run → ℕ → Variable → Datum → Went (Unit {0})
 store_variable p pos hand r s v value =
-    then_do (tested pos (fits (bases p) (store r) (type_of p v) value) r) (λ _ r. went tt (settled hand (with_value p r s (name_of v) value)))
+    then_do (tested pos (fits_type (bases p) (store r) (type_of p v) value) r)
+    (λ _ r. went tt (settled hand (with_value p r s (name_of v) value)))
 
--- a value is written to a variable of an object: it is tested, and then the setter is called where there is one, whose result is given up
+abbrev pub write_by : Project → Meaning → Frame → Pos → List Datum → Run → ℕ → Variable → Datum → Option Code
+    → Went (Unit {0})
+write_by p m frame pos hand r s v value None = store_variable p pos hand r s v value
+write_by p m frame pos hand r s v value (Some code) =
+    then_do (tested pos (fits_type (bases p) (store r) (type_of p v) value) r) (λ _ r.
+    then_do (m.enter (access frame pos s code (value ∷ [])) hand r) (λ _ r. went tt (settled hand r)))
+
+-- a value is written to a variable of an object: it is tested, and then the setter is called where there is one, whose
+-- result is given up
 abbrev pub write_variable : Project → Meaning → Frame → Pos → List Datum → Run → ℕ → Variable → Datum → Went (Unit {0})
-write_variable p m frame pos hand r s v value = by_setter (setter p v)
-  where
-    by_setter : Option Code → Went (Unit {0})
-    by_setter None = store_variable p pos hand r s v value
-    by_setter (Some code) = then_do (tested pos (fits (bases p) (store r) (type_of p v) value) r) (λ _ r.
-        then_do (m.enter (record { code = code; receiver = Some (object s); arguments = value ∷ []; depth = frame.depth; pos = pos }) hand r) (λ _ r. went tt (settled hand r)))
+write_variable p m frame pos hand r s v value = write_by p m frame pos hand r s v value (setter p v)
 
 -- ---- static variables
 
@@ -111,8 +135,9 @@ set_static class name value (x ∷ xs) =
 
 abbrev pub write_static : Project → Pos → List Datum → Run → Variable → Datum → Went (Unit {0})
 write_static p pos hand r v value =
-    then_do (tested pos (fits (bases p) (store r) (type_of p v) value) r) (λ _ r.
-    went tt (settled hand (record r { world = record r.world { statics = set_static v.class (name_of v) value r.world.statics } })))
+    then_do (tested pos (fits_type (bases p) (store r) (type_of p v) value) r) (λ _ r.
+    went tt (settled hand (record r
+    { world = record r.world { statics = set_static v.class (name_of v) value r.world.statics } })))
 
 -- ---- attributes of values
 
@@ -123,18 +148,21 @@ bound s name = callable (record { object = Some s; class = 0; name = name })
 abbrev pub unbound : ℕ → Text → Datum
 unbound class name = callable (record { object = None; class = class; name = name })
 
-abbrev pub read_of_object : Project → Meaning → Frame → Pos → List Datum → Run → ℕ → Text → Option Attribute → Went Datum
+abbrev pub read_of_object : Project → Meaning → Frame → Pos → List Datum → Run → ℕ → Text → Option Attribute
+    → Went Datum
 read_of_object p m frame pos hand r s name (Some (of_object.instance v)) = read_variable p m frame pos hand r s v
 read_of_object p m frame pos hand r s name (Some (of_object.static v)) = read_static hand r v
 read_of_object p m frame pos hand r s name (Some (of_object.function class f)) = gives hand (bound s name) r
 read_of_object p m frame pos hand r s name (Some of_object.signal) = gives hand (signal s name) r
 read_of_object p m frame pos hand r s name None = failed NoSuchMember pos None r.world
 
--- An attribute of a value, at the name after the dot: of an object its nearest member of the name, of a dictionary the value at that key.
--- `hand` is what is held beside the value.
+-- An attribute of a value, at the name after the dot: of an object its nearest member of the name, of a dictionary the
+-- value at that key. `hand` is what is held beside the value.
 abbrev pub read_attribute : Project → Meaning → Frame → Pos → List Datum → Run → Datum → Text → Went Datum
-read_attribute p m frame pos hand r (object s) name = read_of_object p m frame pos hand r s name (attribute p (class_of r s) name)
-read_attribute p m frame pos hand r (dictionary s) name = then_do (read_at pos r (subscript (store r) (dictionary s) (text name))) (gives hand)
+read_attribute p m frame pos hand r (object s) name = read_of_object p m frame pos hand r s name
+    (attribute p (class_of r s) name)
+read_attribute p m frame pos hand r (dictionary s) name = then_do
+    (read_at pos r (subscript (store r) (dictionary s) (text name))) (gives hand)
 read_attribute p m frame pos hand r null name = failed NullReceiver pos None r.world
 read_attribute p m frame pos hand r _ name = failed NoSuchMember pos None r.world
 
@@ -154,22 +182,26 @@ as_dict (Err f) = Err f
 abbrev pub write_entry : Project → Pos → List Datum → Run → ℕ → Datum → Datum → Went (Unit {0})
 write_entry p pos hand r s key value =
     let d = dict_at (store r) s in
-    written_thing pos hand r s (as_dict (entry_written d key (fits (bases p) (store r) d.key_type key) (fits (bases p) (store r) d.value_type value) value))
+    written_thing pos hand r s (as_dict (entry_written d key (fits_type (bases p) (store r) d.key_type key)
+    (fits_type (bases p) (store r) d.value_type value) value))
 
 -- a value at a place of an array
 abbrev pub write_item : Project → Pos → List Datum → Run → ℕ → Datum → Datum → Went (Unit {0})
 write_item p pos hand r s index value =
     let a = array_at (store r) s in
-    written_thing pos hand r s (as_array (item_written a index (fits (bases p) (store r) a.element value) value))
+    written_thing pos hand r s (as_array (item_written a index (fits_type (bases p) (store r) a.element value) value))
 
-abbrev pub write_of_object : Project → Meaning → Frame → Pos → List Datum → Run → ℕ → Datum → Option Attribute → Went (Unit {0})
-write_of_object p m frame pos hand r s value (Some (of_object.instance v)) = write_variable p m frame pos hand r s v value
+abbrev pub write_of_object : Project → Meaning → Frame → Pos → List Datum → Run → ℕ → Datum → Option Attribute
+    → Went (Unit {0})
+write_of_object p m frame pos hand r s value (Some (of_object.instance v)) = write_variable p m frame pos hand r s v
+    value
 write_of_object p m frame pos hand r s value (Some (of_object.static v)) = write_static p pos hand r v value
 write_of_object p m frame pos hand r s value _ = failed NoSuchMember pos None r.world
 
 -- a write to an attribute, at the name after the dot
 abbrev pub write_attribute : Project → Meaning → Frame → Pos → List Datum → Run → Datum → Text → Datum → Went (Unit {0})
-write_attribute p m frame pos hand r (object s) name value = write_of_object p m frame pos hand r s value (attribute p (class_of r s) name)
+write_attribute p m frame pos hand r (object s) name value = write_of_object p m frame pos hand r s value
+    (attribute p (class_of r s) name)
 write_attribute p m frame pos hand r (dictionary s) name value = write_entry p pos hand r s (text name) value
 write_attribute p m frame pos hand r null name value = failed NullReceiver pos None r.world
 write_attribute p m frame pos hand r _ name value = failed NoSuchMember pos None r.world

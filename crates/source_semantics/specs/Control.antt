@@ -8,8 +8,8 @@ pub data Leaving : Type 0 where
   by_break : Leaving
   by_continue : Leaving
 
--- To the next statement; out to the loop, with the subjects of the statements and the locals of the blocks that are left on the way;
--- or out of the function with a result.
+-- To the next statement; out to the loop, with the subjects of the statements and the locals of the blocks that are
+-- left on the way; or out of the function with a result.
 pub data Control : Type 0 where
   next : Control
   leave : Leaving → List Datum → List Datum → Control
@@ -29,10 +29,12 @@ opened r = record r { blocks = [] ∷ r.blocks }
 abbrev pub closed : Run → Run
 closed r = record r { blocks = outer_blocks r.blocks }
 
--- The end of a block. Where it goes on behind it, its locals are given up together; where it is left, they are held on the way.
+-- The end of a block. Where it goes on behind it, its locals are given up together; where it is left, they are held on
+-- the way.
 abbrev pub close_block : List Datum → Control → Run → Went Control
 close_block hand next r = went next (settled hand (closed r))
-close_block hand (leave how subjects locals) r = went (leave how subjects (locals ++ held_in (inner_block r.blocks))) (closed r)
+close_block hand (leave how subjects locals) r = went (leave how subjects (locals ++ held_in (inner_block r.blocks)))
+    (closed r)
 close_block hand (return v) r = went (return v) r
 
 -- where the way out ends, the subjects that were left are given up together first, and then the locals together

@@ -3,15 +3,14 @@ use Rattle.std.specs.Prelude.{ℕ, List, Option, None, Some, map}
 use Rattle.gd_model.specs.Datum.{Datum}
 use Rattle.gd_model.specs.declared.ty.Ty.{Ty}
 use Rattle.gd_syntax.specs.declared.pos.Pos.{Pos}
-use Rattle.gd_syntax.specs.declared.tree.expr.Expr.{Expr}
-use Rattle.gd_syntax.specs.declared.tree.decl.FuncDecl.{FuncDecl}
-use Rattle.gd_syntax.specs.declared.tree.stmt.Stmt.{Stmt}
-use Rattle.gd_syntax.specs.declared.tree.stmt.VarDecl.{VarDecl, out-VarDecl}
-use Rattle.source_semantics.specs.Project.{Project, Text, accessed_by}
+use Rattle.syntax_trees.specs.Declarations.{Function}
+use Rattle.syntax_trees.specs.Expressions.{Expr, Text}
+use Rattle.syntax_trees.specs.Statements.{Stmts, Variable}
+use Rattle.source_semantics.specs.Project.{Project, accessed_by}
 use Rattle.source_semantics.specs.State.{Run, Went}
 
--- the running function: its receiver, the class that it stands in, how many calls stand, the type that it returns, and the
--- variables whose bare names are the variables themselves, in an accessor
+-- the running function: its receiver, the class that it stands in, how many calls stand, the type that it returns, and
+-- the variables whose bare names are the variables themselves, in an accessor
 pub record Frame : Type 0 where
   pub receiver : Option Datum
   pub class : ℕ
@@ -31,23 +30,23 @@ pub record Code : Type 0 where
   pub class : ℕ
   pub parameters : List Parameter
   pub returns : Ty
-  pub body : List Stmt
+  pub body : Stmts
   pub direct : List Text
 
 abbrev pub default_of : Option Pos → Option Expr → Option (Pos × Expr)
 default_of (Some equals) (Some value) = Some (equals, value)
 default_of _ _ = None
 
-abbrev pub parameter_of : Project → VarDecl → Parameter
+abbrev pub parameter_of : Project → Variable → Parameter
 parameter_of p v = record {
-  name = (out-VarDecl v).name;
-  at = (out-VarDecl v).pos;
-  takes = p.place_type (out-VarDecl v).pos;
-  default = default_of (out-VarDecl v).equals (out-VarDecl v).value;
+  name = v.name;
+  at = v.pos;
+  takes = p.place_type v.pos;
+  default = default_of v.equals v.value;
 }
 
 -- a function as it is called
-abbrev pub code_of : Project → ℕ × FuncDecl → Code
+abbrev pub code_of : Project → ℕ × Function → Code
 code_of p f = record {
   class = f.0;
   parameters = map (parameter_of p) f.1.params;
@@ -56,8 +55,8 @@ code_of p f = record {
   direct = accessed_by p f.0 f.1.name;
 }
 
--- Entering a function, when the arguments are tested: what it is entered on and with, how many calls stand, the place of the
--- call, and what is held beside receiver and arguments. It gives the function's result.
+-- Entering a function, when the arguments are tested: what it is entered on and with, how many calls stand, the place
+-- of the call, and what is held beside receiver and arguments. It gives the function's result.
 pub record Entry : Type 0 where
   pub code : Code
   pub receiver : Option Datum

@@ -7,18 +7,9 @@ use Rattle.gd_model.specs.Store.{Names, Thing}
 use Rattle.gd_model.specs.declared.ty.Ty.{Ty}
 use Rattle.value_semantics.specs.declared.builtin_rows.Param.{Param}
 use Rattle.gd_syntax.specs.declared.pos.Pos.{Pos}
-use Rattle.gd_syntax.specs.declared.tree.decl.ClassDecl.{out-ClassDecl}
-use Rattle.gd_syntax.specs.declared.tree.decl.Decl.{Decl, out-Decl}
-use Rattle.gd_syntax.specs.declared.tree.decl.DeclKind.{DeclKind}
-use Rattle.gd_syntax.specs.declared.tree.decl.DeclKind.TheVariants as d
-use Rattle.gd_syntax.specs.declared.tree.decl.FuncDecl.{FuncDecl}
-use Rattle.gd_syntax.specs.declared.tree.stmt.Accessor.{Accessor, out-Accessor}
-use Rattle.gd_syntax.specs.declared.tree.stmt.Accessor.TheOpen.{Accessor-F}
-use Rattle.gd_syntax.specs.declared.tree.stmt.VarDecl.{VarDecl, out-VarDecl}
-
--- a text is its code points
-abbrev pub Text : Type 0
-Text = List ℕ
+use Rattle.syntax_trees.specs.Declarations.{Accessor, Decl, DeclKind, Function, Property, class_name, kind_of, named, body}
+use Rattle.syntax_trees.specs.Declarations as d
+use Rattle.syntax_trees.specs.Expressions.{Text}
 
 -- what an argument is tested for, where the analysis foresaw a test: a type, or what a parameter of a builtin takes
 pub data Expected : Type 0 where
@@ -34,8 +25,6 @@ pub record Class : Type 0 where
 -- A project that breaks no rule. Class k is the k-th of `classes`; 0 is RefCounted.
 pub record Project : Type 0 where
   pub classes : List Class
-  -- no fewer than the levels of any of its expressions, patterns and blocks
-  pub levels : ℕ
   -- what the name or the attribute at a place means, where that is no local
   pub found : Pos → Found
   -- the type of the expression at a place, or of what is assigned to there
@@ -76,12 +65,10 @@ bases p number = line p number ++ 0 ∷ []
 
 -- the names of the classes as they are printed
 abbrev pub names : Project → Names
-names p number = if number == 0 then Some (codes "RefCounted") else option_map (λ (c : Class). c.name) (class_at p number)
+names p number = if number == 0 then Some (codes "RefCounted") else option_map (λ (c : Class). c.name)
+    (class_at p number)
 
 -- ---- declarations
-
-abbrev pub kind_of : Decl → DeclKind
-kind_of x = (out-Decl x).kind
 
 -- the declarations of a class, each with its place among them and the number of the class
 pub record Member : Type 0 where
@@ -91,7 +78,8 @@ pub record Member : Type 0 where
 
 abbrev pub numbered : ℕ → ℕ → List Decl → List Member
 numbered class index [] = []
-numbered class index (x ∷ xs) = record { class = class; index = index; kind = kind_of x } ∷ numbered class (index + 1) xs
+numbered class index (x ∷ xs) = record { class = class; index = index; kind = kind_of x }
+    ∷ numbered class (index + 1) xs
 
 abbrev pub members_of : Project → ℕ → List Member
 members_of p number = members_in number (class_at p number)
@@ -113,41 +101,41 @@ abbrev pub is_function_named : Text → Member → Bool
 is_function_named name m = named_so name m.kind
   where
     named_so : Text → DeclKind → Bool
-    named_so name (d.Func f) = bytes_eq f.name name
+    named_so name (d.function f) = bytes_eq f.name name
     named_so name _ = false
 
-abbrev pub function_of : Member → Option (ℕ × FuncDecl)
+abbrev pub function_of : Member → Option (ℕ × Function)
 function_of m = in_kind m.class m.kind
   where
-    in_kind : ℕ → DeclKind → Option (ℕ × FuncDecl)
-    in_kind class (d.Func f) = Some (class, f)
+    in_kind : ℕ → DeclKind → Option (ℕ × Function)
+    in_kind class (d.function f) = Some (class, f)
     in_kind class _ = None
 
 -- the nearest function of a name, with the class that declares it
-abbrev pub method : Project → ℕ → Text → Option (ℕ × FuncDecl)
+abbrev pub method : Project → ℕ → Text → Option (ℕ × Function)
 method p number name = option_and_then function_of (first (is_function_named name) (all_members p number))
 
 -- the function of a name that a class itself declares
-abbrev pub own_function : Project → ℕ → Text → Option (ℕ × FuncDecl)
+abbrev pub own_function : Project → ℕ → Text → Option (ℕ × Function)
 own_function p number name = option_and_then function_of (first (is_function_named name) (members_of p number))
 
 -- a variable, with the class that declares it
 pub record Variable : Type 0 where
   pub class : ℕ
-  pub decl : VarDecl
+  pub decl : Property
 
 abbrev pub variable_of : Member → List Variable
 variable_of m = in_kind m.class m.kind
   where
     in_kind : ℕ → DeclKind → List Variable
-    in_kind class (d.Var v) = record { class = class; decl = v } ∷ []
+    in_kind class (d.variable v) = record { class = class; decl = v } ∷ []
     in_kind class _ = []
 
 abbrev pub name_of : Variable → Text
-name_of v = (out-VarDecl v.decl).name
+name_of v = v.decl.variable.name
 
 abbrev pub is_static : Variable → Bool
-is_static v = (out-VarDecl v.decl).is_static
+is_static v = v.decl.variable.is_static
 
 abbrev pub own_variables : Project → ℕ → List Variable
 own_variables p number = flat_map variable_of (members_of p number)
@@ -162,16 +150,14 @@ static_variables p number = filter is_static (own_variables p number)
 -- whether an accessor is the function of this name
 abbrev pub is_function : Text → Option Accessor → Bool
 is_function name None = false
-is_function name (Some x) = elim (out-Accessor x) as (λ _. Bool) [
-  | Accessor-F.Named own pos ↦ bytes_eq own name
-  | Accessor-F.Body parameter body pos tokens ↦ false
-]
+is_function name (Some (named own pos)) = bytes_eq own name
+is_function name (Some (body parameter block pos tokens)) = false
 
 abbrev pub has_accessor : Text → Variable → Bool
-has_accessor name v = is_function name (out-VarDecl v.decl).setter || is_function name (out-VarDecl v.decl).getter
+has_accessor name v = is_function name v.decl.setter || is_function name v.decl.getter
 
--- the variables of a class that have this function of it as an accessor: in it their bare names are the variables themselves,
--- however it is called
+-- the variables of a class that have this function of it as an accessor: in it their bare names are the variables
+-- themselves, however it is called
 abbrev pub accessed_by : Project → ℕ → Text → List Text
 accessed_by p class name = map name_of (filter (has_accessor name) (own_variables p class))
 
@@ -179,12 +165,12 @@ accessed_by p class name = map name_of (filter (has_accessor name) (own_variable
 abbrev pub slot : Project → ℕ → Text → Option ℕ
 slot p number name = position (λ v. bytes_eq (name_of v) name) (instance_variables p number)
 
--- what a name is at run time among the members of an object: a variable, a static one, a function or a signal; constants, enums
--- and classes are none
+-- what a name is at run time among the members of an object: a variable, a static one, a function or a signal;
+-- constants, enums and classes are none
 pub data Attribute : Type 0 where
   instance : Variable → Attribute
   static : Variable → Attribute
-  function : ℕ → FuncDecl → Attribute
+  function : ℕ → Function → Attribute
   signal : Attribute
 
 abbrev pub attribute_in : Text → Member → Option (Option Attribute)
@@ -197,14 +183,15 @@ attribute_in name m = in_kind name m.class m.kind
     if_named name own x = if bytes_eq own name then Some x else None
 
     in_kind : Text → ℕ → DeclKind → Option (Option Attribute)
-    in_kind name class (d.Var v) = if_named name (out-VarDecl v).name (Some (of_variable (record { class = class; decl = v })))
-    in_kind name class (d.Const v) = if_named name (out-VarDecl v).name None
-    in_kind name class (d.Func f) = if_named name f.name (Some (function class f))
-    in_kind name class (d.Signal own pos params) = if_named name own (Some signal)
-    in_kind name class (d.Enum (Some own) values) = if_named name own.0 None
-    in_kind name class (d.Enum None values) = None
-    in_kind name class (d.Class c) = option_and_then (λ own. if_named name own None) (out-ClassDecl c).name
-    in_kind name class d.Nothing = None
+    in_kind name class (d.variable v) = if_named name v.variable.name
+        (Some (of_variable (record { class = class; decl = v })))
+    in_kind name class (d.constant v) = if_named name v.name None
+    in_kind name class (d.function f) = if_named name f.name (Some (function class f))
+    in_kind name class (d.signal own pos params) = if_named name own (Some signal)
+    in_kind name class (d.enum (Some own) values) = if_named name own.0 None
+    in_kind name class (d.enum None values) = None
+    in_kind name class (d.class c) = option_and_then (λ own. if_named name own None) (class_name c)
+    in_kind name class d.nothing = None
 
 -- the nearest member of the name, where it is an attribute
 abbrev pub attribute : Project → ℕ → Text → Option Attribute

@@ -9,51 +9,58 @@ use Rattle.gd_model.specs.declared.fault.RunFault.TheVariants.{CallsTooDeep}
 use Rattle.gd_model.specs.declared.ty.Ty.{Ty}
 use Rattle.gd_model.specs.declared.ty.Ty.TheVariants.{Variant}
 use Rattle.gd_syntax.specs.declared.pos.Pos.{Pos}
-use Rattle.gd_syntax.specs.declared.tree.decl.FuncDecl.{FuncDecl}
-use Rattle.gd_syntax.specs.declared.tree.expr.Expr.{Expr}
-use Rattle.gd_syntax.specs.declared.tree.stmt.VarDecl.{out-VarDecl}
-use Rattle.assignability.specs.Fits.{fits}
-use Rattle.store_semantics.specs.Starts.{start}
+use Rattle.syntax_trees.specs.Declarations.{Function}
+use Rattle.syntax_trees.specs.Expressions.{Expr, Text}
 use Rattle.store_semantics.specs.World.{Seen, World, leaked, make, with_thing}
 use Rattle.source_semantics.specs.Attributes.{store_variable, type_of, with_value, write_static}
 use Rattle.source_semantics.specs.Control.{Control, return}
 use Rattle.source_semantics.specs.Expressions.{Context, construct, evaluate}
-use Rattle.source_semantics.specs.Meaning.{Entry, Making, Meaning, Parameter, code_of}
-use Rattle.source_semantics.specs.Project.{Project, Text, Variable, bases, instance_variables, method, name_of, own_function, static_variables}
+use Rattle.source_semantics.specs.Meaning.{Entry, Making, Meaning, Parameter, code_of, default_of}
+use Rattle.source_semantics.specs.Project.{Project, Variable, bases, instance_variables, method, name_of, own_function, static_variables}
 use Rattle.source_semantics.specs.Signals.{call_found}
 use Rattle.source_semantics.specs.State.{Block, Run, Went, at_place, declare, failed, locals_held, ran_out, settled, store, tested, then_do, went}
-use Rattle.source_semantics.specs.Statements.{execute}
+use Rattle.source_semantics.specs.Statements.{execute, use_turn}
+use Rattle.source_semantics.specs.Types.{fits_type, start_value}
 
 -- ---- entering a function
 
 -- a call enters only where fewer than 1,024 calls stand, and uses one turn
 abbrev pub entered : Pos → ℕ → Run → (Run → Went Datum) → Went Datum
-entered pos depth r more = if nat_le 1024 depth then failed CallsTooDeep pos None r.world else by_turns r.turns
-  where
-    by_turns : ℕ → Went Datum
-    by_turns zero = ran_out r.world
-    by_turns (suc turns) = more (record r { turns = turns })
+entered pos depth r more = if nat_le 1024 depth then failed CallsTooDeep pos None r.world else use_turn r more r.turns
 
 abbrev pub in_frame : Project → Meaning → Option Datum → ℕ → ℕ → Ty → List Text → Context
 in_frame p m receiver class depth returns direct =
-    record { project = p; meaning = m; frame = record { receiver = receiver; class = class; depth = depth; returns = returns; direct = direct } }
+    record {
+      project = p;
+      meaning = m;
+      frame = record {
+        receiver = receiver;
+        class = class;
+        depth = depth;
+        returns =
+            returns;
+        direct = direct;
+      };
+    }
 
 abbrev pub with_parameter : Parameter → Datum → Run → Run
 with_parameter q v r = declare (record { name = q.name; at = q.at; value = Some v }) r
 
+abbrev pub default_by : Context → List Datum → Run → Ty → Option (Pos × Expr) → Went Datum
+default_by c hand r t None = went null r
+default_by c hand r t (Some x) =
+    then_do (evaluate c hand r x.1) (λ v r. then_do (tested x.0 (fits_type (bases c.project) (store r) t v) r)
+    (λ _ r. went v r))
+
 -- a parameter without an argument has its default value, which is evaluated in the function and tested at its `=`
 abbrev pub default_value : Context → List Datum → Run → Parameter → Went Datum
-default_value c hand r q = by_default q.default
-  where
-    by_default : Option (Pos × Expr) → Went Datum
-    by_default None = went null r
-    by_default (Some x) = then_do (evaluate c hand r x.1) (λ v r.
-        then_do (tested x.0 (fits (bases c.project) (store r) q.takes v) r) (λ _ r. went v r))
+default_value c hand r q = default_by c hand r q.takes q.default
 
 abbrev pub with_arguments : Context → List Datum → Run → List Parameter → List Datum → Went (Unit {0})
 with_arguments c hand r [] vs = went tt r
 with_arguments c hand r (q ∷ qs) (v ∷ vs) = with_arguments c hand (with_parameter q v r) qs vs
-with_arguments c hand r (q ∷ qs) [] = then_do (default_value c hand r q) (λ v r. with_arguments c hand (settled hand (with_parameter q v r)) qs [])
+with_arguments c hand r (q ∷ qs) [] = then_do (default_value c hand r q)
+    (λ v r. with_arguments c hand (settled hand (with_parameter q v r)) qs [])
 
 abbrev pub receiver_held : Option Datum → List Datum
 receiver_held None = []
@@ -63,8 +70,8 @@ abbrev pub result_of : Control → Datum
 result_of (return v) = v
 result_of control = null
 
--- The function has no locals of its caller, whose values are held meanwhile. At its end the result is held first; then receiver,
--- parameters, locals and subjects are given up together.
+-- The function has no locals of its caller, whose values are held meanwhile. At its end the result is held first; then
+-- receiver, parameters, locals and subjects are given up together.
 abbrev pub run_body : Context → List Datum → List Block → Run → Entry → Went Datum
 run_body c hand outer r e =
     let held = receiver_held e.receiver ++ hand in
@@ -75,7 +82,8 @@ run_body c hand outer r e =
 abbrev pub enter_with : Project → Meaning → Entry → List Datum → Run → Went Datum
 enter_with p m e hand r =
     entered e.pos e.depth r (λ now.
-    run_body (in_frame p m e.receiver e.code.class (e.depth + 1) e.code.returns e.code.direct) (hand ++ locals_held r) r.blocks now e)
+    run_body (in_frame p m e.receiver e.code.class (e.depth + 1) e.code.returns e.code.direct)
+    (hand ++ locals_held r) r.blocks now e)
 
 -- ---- making an object
 
@@ -83,31 +91,37 @@ enter_with p m e hand r =
 abbrev pub start_all : Project → Pos → Run → ℕ → List Variable → Went (Unit {0})
 start_all p pos r s [] = went tt r
 start_all p pos r s (v ∷ vs) =
-    then_do (at_place pos r (start r.world (type_of p v))) (λ x r. start_all p pos (with_value p r s (name_of v) x) s vs)
+    then_do (at_place pos r (start_value r.world (type_of p v)))
+    (λ x r. start_all p pos (with_value p r s (name_of v) x) s vs)
+
+abbrev pub initial_by : Project → Meaning → ℕ → List Datum → Run → ℕ → Variable → Option (Pos × Expr) → Went (Unit {0})
+initial_by p m depth hand r s v None = went tt r
+initial_by p m depth hand r s v (Some x) =
+    then_do (evaluate (in_frame p m (Some (object s)) v.class depth Variant []) hand r x.1) (λ value r.
+    store_variable p x.0 hand r s v value)
 
 -- then the initial values are evaluated and put in, in the same order and without setters; each is tested at its `=`
 abbrev pub initial_value : Project → Meaning → ℕ → List Datum → Run → ℕ → Variable → Went (Unit {0})
-initial_value p m depth hand r s v = by_value (out-VarDecl v.decl).equals (out-VarDecl v.decl).value
-  where
-    by_value : Option Pos → Option Expr → Went (Unit {0})
-    by_value (Some equals) (Some x) =
-        then_do (evaluate (in_frame p m (Some (object s)) v.class depth Variant []) hand r x) (λ value r. store_variable p equals hand r s v value)
-    by_value _ _ = went tt r
+initial_value p m depth hand r s v = initial_by p m depth hand r s v
+    (default_of v.decl.variable.equals v.decl.variable.value)
 
 abbrev pub initial_values : Project → Meaning → ℕ → List Datum → Run → ℕ → List Variable → Went (Unit {0})
 initial_values p m depth hand r s [] = went tt r
 initial_values p m depth hand r s (v ∷ vs) =
     then_do (initial_value p m depth hand r s v) (λ _ r. initial_values p m depth hand r s vs)
 
+abbrev pub init_entry : Project → Making → ℕ → ℕ × Function → Entry
+init_entry p x s f =
+    record { code = code_of p f; receiver = Some (object s); arguments = x.arguments; depth = x.depth + 1; pos = x.pos }
+
+abbrev pub initialize_by : Project → Meaning → Making → List Datum → Run → ℕ → Option (ℕ × Function) → Went (Unit {0})
+initialize_by p m x hand r s None = went tt r
+initialize_by p m x hand r s (Some f) =
+    then_do (m.enter (init_entry p x s f) (object s ∷ hand) r) (λ _ r. went tt (settled (object s ∷ hand) r))
+
 -- the nearest `_init` is a further call; it takes the arguments, and its result is given up
 abbrev pub initialize : Project → Meaning → Making → List Datum → Run → ℕ → Went (Unit {0})
-initialize p m x hand r s = by_init (method p x.class (codes "_init"))
-  where
-    by_init : Option (ℕ × FuncDecl) → Went (Unit {0})
-    by_init None = went tt r
-    by_init (Some f) =
-        then_do (m.enter (record { code = code_of p f; receiver = Some (object s); arguments = x.arguments; depth = x.depth + 1; pos = x.pos }) (object s ∷ hand) r)
-        (λ _ r. went tt (settled (object s ∷ hand) r))
+initialize p m x hand r s = initialize_by p m x hand r s (method p x.class (codes "_init"))
 
 abbrev pub nulls : List Variable → List Datum
 nulls vs = map (λ _. null) vs
@@ -119,16 +133,21 @@ make_object p m x hand outer r =
     let held = object s ∷ x.arguments ++ hand in
     then_do (start_all p x.pos r s variables) (λ _ r.
     then_do (initial_values p m (x.depth + 1) held r s variables) (λ _ r.
-    then_do (initialize p m x hand r s) (λ _ r. went (object s) (settled (object s ∷ hand) (record r { blocks = outer }))))))
+    then_do (initialize p m x hand r s)
+    (λ _ r. went (object s) (settled (object s ∷ hand) (record r { blocks = outer }))))))
 
 abbrev pub make_with : Project → Meaning → Making → List Datum → Run → Went Datum
-make_with p m x hand r = entered x.pos x.depth r (λ now. make_object p m x (hand ++ locals_held r) r.blocks (record now { blocks = [] }))
+make_with p m x hand r = entered x.pos x.depth r (λ now. make_object p m x (hand ++ locals_held r) r.blocks
+    (record now { blocks = [] }))
 
--- What entering and making mean where at most so many of them go on one inside another or one after another. As each uses a turn, the
--- turns of a run are enough.
+-- What entering and making mean where at most so many of them go on one inside another or one after another. As each
+-- uses a turn, the turns of a run are enough.
 unfoldable pub meaning : ℕ → Project → Meaning
 meaning zero p = record { enter = λ e hand r. ran_out r.world; make = λ x hand r. ran_out r.world }
-meaning (suc turns) p = record { enter = enter_with p (meaning turns p); make = make_with p (meaning turns p) }
+meaning (suc turns) p = record {
+  enter = λ e hand r. enter_with p (meaning turns p) e hand r;
+  make = λ x hand r. make_with p (meaning turns p) x hand r;
+}
 
 -- ---- a run
 
@@ -170,28 +189,34 @@ all_statics (suc left) number p = static_variables p number ++ all_statics left 
 abbrev pub start_statics : Project → Pos → Run → List Variable → Went (Unit {0})
 start_statics p pos r [] = went tt r
 start_statics p pos r (v ∷ vs) =
-    then_do (at_place pos r (start r.world (type_of p v))) (λ x r.
-    start_statics p pos (record r { world = record r.world { statics = r.world.statics ++ (record { class = v.class; name = name_of v; value = x }) ∷ [] } }) vs)
+    then_do (at_place pos r (start_value r.world (type_of p v))) (λ x r.
+    start_statics p pos (record r {
+      world =
+          record r.world { statics = r.world.statics ++ (record { class = v.class; name = name_of v; value = x }) ∷ [] };
+    }) vs)
+
+abbrev pub static_by : Project → Meaning → Run → Variable → Option (Pos × Expr) → Went (Unit {0})
+static_by p m r v None = went tt r
+static_by p m r v (Some x) =
+    then_do (evaluate (no_class v.class m p) [] r x.1) (λ value r. write_static p x.0 [] r v value)
 
 abbrev pub initial_static : Project → Meaning → Run → Variable → Went (Unit {0})
-initial_static p m r v = by_value (out-VarDecl v.decl).equals (out-VarDecl v.decl).value
-  where
-    by_value : Option Pos → Option Expr → Went (Unit {0})
-    by_value (Some equals) (Some x) = then_do (evaluate (no_class v.class m p) [] r x) (λ value r. write_static p equals [] r v value)
-    by_value _ _ = went tt r
+initial_static p m r v = static_by p m r v (default_of v.decl.variable.equals v.decl.variable.value)
 
 abbrev pub initial_statics : Project → Meaning → Run → List Variable → Went (Unit {0})
 initial_statics p m r [] = went tt r
 initial_statics p m r (v ∷ vs) = then_do (initial_static p m r v) (λ _ r. initial_statics p m r vs)
 
+abbrev pub static_entry : Project → ℕ × Function → Entry
+static_entry p f = record { code = code_of p f; receiver = None; arguments = []; depth = 0; pos = f.1.pos }
+
+abbrev pub static_init_by : Project → Meaning → Run → Option (ℕ × Function) → Went (Unit {0})
+static_init_by p m r None = went tt r
+static_init_by p m r (Some f) = then_do (m.enter (static_entry p f) [] r) (λ _ r. went tt (settled [] r))
+
 -- a class's own `_static_init`
 abbrev pub static_init : Project → Meaning → Run → ℕ → Went (Unit {0})
-static_init p m r number = by_function (own_function p number (codes "_static_init"))
-  where
-    by_function : Option (ℕ × FuncDecl) → Went (Unit {0})
-    by_function None = went tt r
-    by_function (Some f) =
-        then_do (m.enter (record { code = code_of p f; receiver = None; arguments = []; depth = 0; pos = f.1.pos }) [] r) (λ _ r. went tt (settled [] r))
+static_init p m r number = static_init_by p m r (own_function p number (codes "_static_init"))
 
 -- for each class its static variables get their initial values, and then its `_static_init` is called
 abbrev pub prepare_class : Project → Meaning → Run → ℕ → Went (Unit {0})
@@ -224,8 +249,8 @@ outcome (went x r) = (r.world.events ++ leaks r.world, done)
 outcome (failed f pos message w) = (w.events, fault f pos message)
 outcome (ran_out w) = (w.events, out_of_turns)
 
--- What a run of the main class with so many turns is: its events, and how it ends. Operations that no text asks for have the place 1:1
--- of the main file.
+-- What a run of the main class with so many turns is: its events, and how it ends. Operations that no text asks for
+-- have the place 1:1 of the main file.
 abbrev pub run : Project → ℕ → Pos → ℕ → List Seen × Ended
 run p main pos turns =
     let m = meaning (turns + 1) p in let count = length p.classes in

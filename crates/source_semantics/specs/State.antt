@@ -1,6 +1,6 @@
--- What an evaluation has besides the tree: the world, the locals of the running function, and the turns that are left; and how it
--- ends.
-use Rattle.std.specs.Prelude.{ℕ, Bool, List, [], ◌∷◌, ◌++◌, Option, None, Some, option_map, unwrap_or, Result, Ok, Err, bytes_eq, if◌then◌else◌}
+-- What an evaluation has besides the tree: the world, the locals of the running function, and the turns that are left;
+-- and how it ends.
+use Rattle.std.specs.Prelude.{ℕ, Bool, true, false, List, [], ◌∷◌, ◌++◌, Option, None, Some, option_map, unwrap_or, Result, Ok, Err, bytes_eq, if◌then◌else◌}
 use Rattle.std.specs.List.{flat_map}
 use Rattle.gd_model.specs.Datum.{Datum, null}
 use Rattle.gd_model.specs.Store.{Store}
@@ -9,7 +9,8 @@ use Rattle.gd_model.specs.declared.fault.RunFault.TheVariants.{ValueOfAnotherTyp
 use Rattle.gd_syntax.specs.declared.pos.Pos.{Pos}
 use Rattle.store_semantics.specs.World.{World, store_of}
 use Rattle.store_semantics.specs.Holding.{settle}
-use Rattle.source_semantics.specs.Project.{Text, first}
+use Rattle.syntax_trees.specs.Expressions.{Text}
+use Rattle.source_semantics.specs.Project.{first}
 
 -- a local: its name, the place of the name that declares it, and its value, if one is set
 pub record Local : Type 0 where
@@ -41,6 +42,11 @@ abbrev pub then_do : {A B : Type 0} → Went A → (A → Run → Went B) → We
 then_do (went x r) more = more x r
 then_do (failed f pos message w) more = failed f pos message w
 then_do (ran_out w) more = ran_out w
+
+-- the one way where it is so, and else the other
+abbrev pub if_so : {A : Type 0} → Bool → (Run → Went A) → (Run → Went A) → Run → Went A
+if_so true this other r = this r
+if_so false this other r = other r
 
 -- what an operation gives at its place: a value and a world
 abbrev pub at_place : {A : Type 0} → Pos → Run → Result (A × World) RunFault → Went A
@@ -80,7 +86,8 @@ declare l r = record r { blocks = declare_in l r.blocks }
 -- a block with another value of the local of a name, if it has one
 abbrev pub set_in : Text → Datum → Block → Option Block
 set_in name v [] = None
-set_in name v (l ∷ ls) = if is_named name l then Some (record l { value = Some v } ∷ ls) else option_map (λ rest. l ∷ rest) (set_in name v ls)
+set_in name v (l ∷ ls) = if is_named name l then Some (record l { value = Some v } ∷ ls) else option_map
+    (λ rest. l ∷ rest) (set_in name v ls)
 
 abbrev pub set_local : Text → Datum → List Block → List Block
 set_local name v [] = []

@@ -1,0 +1,16 @@
+-- What a run computes with, so that a trial names one definition.
+use Rattle.std.specs.Prelude.{⊤}
+use Rattle.std.specs.Fmt.{digits}
+use lib.Utf8
+use Rattle.store_semantics.specs.Holding.{rounds}
+use Rattle.value_semantics.specs.Equality as equality
+use Rattle.value_semantics.specs.Printed as printed
+use Rattle.source_semantics.specs.Expressions.{evaluate}
+use Rattle.source_semantics.specs.Matching.{match_pattern}
+use Rattle.source_semantics.specs.Running.{meaning}
+use Rattle.source_semantics.specs.Statements.{execute, for_loop, while_loop}
+
+unfoldable pub computes : ⊤
+unfolding digits lib.Utf8.encode rounds equality.inside printed.inside evaluate match_pattern meaning execute for_loop
+    while_loop
+computes = tt

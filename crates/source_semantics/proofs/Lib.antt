@@ -1,0 +1,13 @@
+pub mod Computing
+pub mod Grown
+pub mod GrownAssignments
+pub mod GrownAttributes
+pub mod GrownCalls
+pub mod GrownExpressions
+pub mod GrownMatching
+pub mod GrownPair
+pub mod GrownRunning
+pub mod GrownStatements
+pub mod GrownTurns
+pub mod Opened
+pub mod Settled
