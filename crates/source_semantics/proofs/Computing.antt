@@ -2,6 +2,7 @@
 use Rattle.std.specs.Prelude.{⊤}
 use Rattle.std.specs.Fmt.{digits}
 use lib.Utf8
+use Rattle.gd_text.specs.Reading.{conversion_of, read_behind, read_conversion, read_piece}
 use Rattle.store_semantics.specs.Holding.{rounds}
 use Rattle.value_semantics.specs.Equality as equality
 use Rattle.value_semantics.specs.Printed as printed
@@ -11,6 +12,7 @@ use Rattle.source_semantics.specs.Running.{meaning}
 use Rattle.source_semantics.specs.Statements.{execute, for_loop, while_loop}
 
 unfoldable pub computes : ⊤
-unfolding digits lib.Utf8.encode rounds equality.inside printed.inside evaluate match_pattern meaning execute for_loop
+unfolding conversion_of digits read_behind read_conversion read_piece lib.Utf8.encode rounds equality.inside
+    printed.inside evaluate match_pattern meaning execute for_loop
     while_loop
 computes = tt

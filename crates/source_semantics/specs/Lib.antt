@@ -13,6 +13,7 @@ pub mod Settling
 pub mod Signals
 pub mod State
 pub mod Statements
+pub mod TrialOfStore
 pub mod TrialsOfCalls
 pub mod TrialsOfHolding
 pub mod TrialsOfObjects

@@ -11,7 +11,7 @@ use Rattle.gd_model.specs.declared.ty.Ty.TheVariants.{Variant}
 use Rattle.gd_syntax.specs.declared.pos.Pos.{Pos}
 use Rattle.syntax_trees.specs.Declarations.{Function}
 use Rattle.syntax_trees.specs.Expressions.{Expr, Text}
-use Rattle.store_semantics.specs.World.{Seen, World, leaked, make, with_thing}
+use Rattle.store_semantics.specs.World.{Seen, Static, World, leaked, make, with_thing}
 use Rattle.source_semantics.specs.Attributes.{store_variable, type_of, with_value, write_static}
 use Rattle.source_semantics.specs.Control.{Control, return}
 use Rattle.source_semantics.specs.Expressions.{Context, construct, evaluate}
@@ -185,15 +185,17 @@ abbrev pub all_statics : ℕ → ℕ → Project → List Variable
 all_statics zero number p = []
 all_statics (suc left) number p = static_variables p number ++ all_statics left (number + 1) p
 
+abbrev pub with_static : Variable → Datum → Run → Run
+with_static v x r = record r { world = record r.world { statics = r.world.statics ++ static_of v x ∷ [] } }
+  where
+    static_of : Variable → Datum → Static
+    static_of v x = record { class = v.class; name = name_of v; value = x }
+
 -- all static variables get their start values, in class order
 abbrev pub start_statics : Project → Pos → Run → List Variable → Went (Unit {0})
 start_statics p pos r [] = went tt r
 start_statics p pos r (v ∷ vs) =
-    then_do (at_place pos r (start_value r.world (type_of p v))) (λ x r.
-    start_statics p pos (record r {
-      world =
-          record r.world { statics = r.world.statics ++ (record { class = v.class; name = name_of v; value = x }) ∷ [] };
-    }) vs)
+    then_do (at_place pos r (start_value r.world (type_of p v))) (λ x r. start_statics p pos (with_static v x r) vs)
 
 abbrev pub static_by : Project → Meaning → Run → Variable → Option (Pos × Expr) → Went (Unit {0})
 static_by p m r v None = went tt r

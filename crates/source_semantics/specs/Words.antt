@@ -88,7 +88,7 @@ abbrev pub named : ℕ → ℕ → Text → Variable
 named y x name =
     record { name = name; pos = at y x; is_static = false; typed = None; inferred = false; equals = None; value = None }
 
--- a block's variable; `var` stands four columns before its name
+-- a block's variable, with the place of `var`
 abbrev pub local : ℕ → ℕ → Variable → Stmt
 local y x v = statement y x (s.local v)
 
@@ -137,7 +137,7 @@ finds y x class k = (at y x, found.Member (record { class = class; index = k }))
 abbrev pub finds_print : ℕ → ℕ → Pos × Found
 finds_print y x = (at y x, found.Builtin 0)
 
--- the class `main.gd`, and another one behind it
+-- a class of its own, with this name
 abbrev pub class_of : Text → List Decl → Class
 class_of name members = record { name = name; base = 0; members = members }
 

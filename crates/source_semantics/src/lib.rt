@@ -17,6 +17,7 @@ ghost use Rattle.source_semantics.specs.TrialsOfHolding.{FreesCondition, FreesEa
 ghost use Rattle.source_semantics.specs.TrialsOfHolding.{ReturnFreesTogether, StaticCallHolds};
 ghost use Rattle.source_semantics.specs.TrialsOfOrder.{BadKeyComesLast, BaseComesFirst, EmitsOldList};
 ghost use Rattle.source_semantics.specs.TrialsOfOrder.{GuardChangesSubject, RangeFaultsAtName, TurnComesFirst};
+ghost use Rattle.source_semantics.specs.TrialOfStore.{KeepsShop};
 ghost use Rattle.source_semantics.specs.Growth.{MoreTurnsGoOn};
 ghost use Rattle.source_semantics.specs.Settling.{AsksAmong, LeavesHeld, MoreHeld, StaysSettled};
 ghost use Rattle.source_semantics.specs.Types.{ElementsAgree, FitsAgree, StartsAgree};
@@ -103,4 +104,9 @@ pub fn order_trials()
     ensures guard { GuardChangesSubject }
     ensures emits { EmitsOldList }
     ensures base { BaseComesFirst }
+{}
+
+/// A larger project tried: three scripts.
+pub fn larger_trial()
+    ensures shop { KeepsShop }
 {}
