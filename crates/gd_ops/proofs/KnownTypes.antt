@@ -1,5 +1,5 @@
 -- Operands whose types are known are of kinds for which there is the operator.
-use Rattle.std.proofs.Common.{◌≡◌, Bool, true, false, ◌&&◌, ◌||◌, not, ◌⊎◌, inl, inr, Option, None, Some, Err, refl, ap, sym, ◌∙◌, if◌then◌else◌}
+use Rattle.std.proofs.Common.{◌≡◌, ℕ, List, Bool, true, false, ◌&&◌, ◌||◌, not, ◌⊎◌, inl, inr, Option, None, Some, Err, refl, ap, sym, ◌∙◌, if◌then◌else◌}
 use Rattle.gd_syntax.specs.declared.operator.Operator.{Operator}
 use Rattle.gd_syntax.specs.declared.operator.Operator.TheVariants.{Remainder, Add, Equal, NotEqual, Less, LessEqual, Greater, GreaterEqual, In, NotIn, Negate, Plus, Complement, Not}
 use Rattle.gd_model.specs.declared.fault.RunFault.TheVariants.{BadOperands}
@@ -12,6 +12,8 @@ use Rattle.value_semantics.specs.declared.rows.Given.{Given}
 use Rattle.value_semantics.specs.declared.rows.Given.TheVariants as gv
 use Rattle.value_semantics.specs.Kinds.{kind_of, kind_of_type, right_kind, takes, is_unary, is_no_value, is_key, is_test, fits_kind, by_kinds, type_by_left, result_type, alike, ints, texts, arrays, pattern, inside, one_int}
 use Rattle.value_semantics.specs.Operators.{applied}
+use Rattle.assignability.specs.Fits.{fits}
+use Rattle.gd_ops.proofs.FitKinds.{fitting_is_of_kind}
 use Rattle.gd_ops.proofs.Operands.{no_bad_operands}
 
 -- a value that fits is of the same kind, or null
@@ -128,16 +130,21 @@ there_is op s t same g a b e es et =
     let known : by_kinds op (kind_of_type s) (right_kind op t) same ≡ Some g = not_refused (is_no_value s || (not (is_unary op) && is_no_value t)) (by_kinds op (kind_of_type s) (right_kind op t) same) g e in
     is_taken (takes op a b) (if is_test op then gv.Bool else type_by_left a same) g ((λ i. by_kinds op (sym es i) (sym et i) same) ∙ known)
 
-null_kind : (b : Datum) → fits_kind k.Nil (kind_of b) ≡ true → b ≡ null
-null_kind null e = refl
-null_kind _ e = cc
+-- the operands fit their types, and null stands on the right of an operator that takes one
+module _ (bases : ℕ → List ℕ) (store : Store) where
+  right_by : (one : Bool) (t : Ty) (l : Kind) (y : Datum) → (if one then Some k.Nil else kind_of_type t) ≡ Some l → (one ≡ true → y ≡ null)
+      → (one ≡ false → fits bases store t y ≡ true) → fits_kind l (kind_of y) ≡ true
+  right_by true t l y e n f = let same : l ≡ k.Nil = cc in λ i. fits_kind (same i) (kind_of (n refl i))
+  right_by false t l y e n f = fitting_is_of_kind bases store t l y e (f refl)
 
-null_right : (op : Operator) (t : Ty) (l : Kind) (b : Datum) → right_kind op t ≡ Some l → fits_kind l (kind_of b) ≡ true → is_unary op ≡ true → b ≡ null
-null_right op t l b e f u =
-    let right : Some k.Nil ≡ Some l = ap (λ yes. if yes then Some k.Nil else kind_of_type t) (sym u) ∙ e in
-    let same : l ≡ k.Nil = cc in
-    null_kind b (ap (λ x. fits_kind x (kind_of b)) (sym same) ∙ f)
+  right_fits : (op : Operator) (t : Ty) (l : Kind) (y : Datum) → right_kind op t ≡ Some l → (is_unary op ≡ true → y ≡ null)
+      → (is_unary op ≡ false → fits bases store t y ≡ true) → fits_kind l (kind_of y) ≡ true
+  right_fits op t l y = right_by (is_unary op) t l y
 
-pub known_types : (store : Store) (names : Names) (op : Operator) (s t : Ty) (same : Bool) (g : Given) (a b : Kind) (x y : Datum) → result_type op s t same ≡ Some g → kind_of_type s ≡ Some a → right_kind op t ≡ Some b → fits_kind a (kind_of x) ≡ true → fits_kind b (kind_of y) ≡ true → applied store names op x y ≡ Err BadOperands → ⊥
-known_types store names op s t same g a b x y e es et fx fy =
-    no_bad_operands store names op x y (takes_fits op a b (kind_of x) (kind_of y) (there_is op s t same g a b e es et) fx fy) (null_right op t b y et fy)
+  pub known_types : (names : Names) (op : Operator) (s t : Ty) (same : Bool) (g : Given) (a b : Kind) (x y : Datum) → result_type op s t same ≡ Some g
+      → kind_of_type s ≡ Some a → right_kind op t ≡ Some b → fits bases store s x ≡ true → (is_unary op ≡ true → y ≡ null)
+      → (is_unary op ≡ false → fits bases store t y ≡ true) → applied store names op x y ≡ Err BadOperands → ⊥
+  known_types names op s t same g a b x y e es et fx null_right fy =
+      let left = fitting_is_of_kind bases store s a x es fx in
+      let right = right_fits op t b y et null_right fy in
+      no_bad_operands store names op x y (takes_fits op a b (kind_of x) (kind_of y) (there_is op s t same g a b e es et) left right) null_right

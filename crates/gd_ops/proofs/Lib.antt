@@ -1,4 +1,5 @@
 mod Deep
+mod FitKinds
 mod KnownTypes
 mod Misfits
 mod Operands

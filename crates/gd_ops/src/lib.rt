@@ -8,7 +8,8 @@ pub use gd_builtins::call_builtin;
 pub use gd_operators::{apply, is_same, same, truth};
 pub use gd_printing::text_of;
 pub use laws::{
-    fitting_calls_are_taken, known_types_have_no_bad_operands, misfits_are_refused, no_bad_operands,
+    fitting_calls_are_taken, fitting_values_are_of_the_kind, known_types_have_no_bad_operands,
+    misfits_are_refused, no_bad_operands,
 };
 pub use value_semantics::{
     Builtin, BuiltinRow, Given, Kind, Param, Returned, builtin_named, builtin_numbered,
