@@ -19,6 +19,8 @@ mod decoder;
 mod ending;
 mod entering;
 mod fitting;
+mod fused;
+mod fusing;
 mod giving;
 mod instructions;
 mod ints;

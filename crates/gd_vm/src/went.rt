@@ -7,6 +7,8 @@ use gd_syntax::Text;
 pub enum Went {
     /// It gave nothing up, and entered and left no function: the next one follows at once.
     On,
+    /// The same, of a fused instruction: it did so many more.
+    Many(u32),
     /// The next one follows, unless something else goes on first.
     Perhaps,
     /// It printed a line.
