@@ -6,7 +6,9 @@ usage: doc_examples.py GD      GD is the program, e.g. crates/gd_command/out/gd_
 An example is
 - a block between ```gdscript and ```. `check` finds no fault in it, or the one that the next line with text tells, as
   in 'gives `main.gd:2:10: error S02: form left out`'
-  (the other blocks of this kind hold a grammar or the steps of a call, and are no scripts);
+  (the other blocks of this kind hold a grammar, the steps of a call or an output, and are no scripts);
+- such a block where the next line with text is '`gd run main.gd` prints', perhaps with options behind `main.gd`, and
+  the next block holds what it prints: it is run too. How the run ends follows from the last line;
 - a block of indented lines, a script with the lines below it that `check` prints, with `--warn` where one of them is a
   warning, and with `--marks` where one is a mark;
 - a row of a table that begins with a script and such a line.
@@ -26,6 +28,8 @@ FENCE = "```"
 SCRIPT_FENCE = "```gdscript"
 OTHER_FENCES = ("```", "```text")
 PRINTED = re.compile(r"main\.gd:\d+:\d+: (error [A-Z]\d+: |warning W\d: |mark$)")
+RUNS = re.compile(r"`gd (run main\.gd[^`]*)` prints$")
+ENDS = [(re.compile(r"\S+:\d+:\d+: error R\d\d: "), 3), (re.compile(r"out of turns\n$"), 4)]
 GIVES = re.compile(r"gives `(main\.gd:[^`]+)`")
 ROW = re.compile(r"\| `([^`]+)` \| `(main\.gd:[^`]+)` \|.*")
 NEIGHBOUR = re.compile(rb'"res://([^"]+\.gd)"')
@@ -38,22 +42,30 @@ BYTES = {b"<tab>": b"\t", b"<space>": b" ", b"<FF>": b"\xff"}
 
 
 class Example(NamedTuple):
-    """A script, and the lines that `check` prints."""
+    """A script, the words of a call on it, and the answer that is wanted."""
 
     where: str
     script: bytes
-    printed: str
-
-    def words(self):
-        options = {": warning ": "--warn", ": mark\n": "--marks"}
-        return ["check", *(option for sign, option in options.items() if sign in self.printed)]
-
-    def wanted(self):
-        return Answer(1 if ": error " in self.printed else 0, self.printed.encode())
+    words: List[str]
+    wanted: Answer
 
     def files(self):
         neighbours = {name.decode(): b"" for name in NEIGHBOUR.findall(self.script)}
         return {**neighbours, "main.gd": self.script}
+
+
+def checked(where, script, printed):
+    """The example of a script with the lines that `check` prints."""
+    options = {": warning ": "--warn", ": mark\n": "--marks"}
+    words = ["check", *(option for sign, option in options.items() if sign in printed)]
+    return Example(where, script, words, Answer(1 if ": error " in printed else 0, printed.encode()))
+
+
+def ran(where, script, words, printed):
+    """The example of a script with the lines that `run` prints."""
+    last = printed.splitlines(keepends=True)[-1:]
+    status = next((status for end, status in ENDS for line in last if end.match(line)), 0)
+    return Example(where, script, words.split(), Answer(status, printed.encode()))
 
 
 def written(lines):
@@ -99,13 +111,21 @@ def split(page, lines):
 
 def fenced(page, fences):
     """The examples that are blocks between fences."""
-    for fence, below in fences:
+    for place, (fence, below) in enumerate(fences):
         if fence.head == SCRIPT_FENCE:
-            gives = GIVES.match(next(filter(None, below), ""))
-            script = "".join(f"{line}\n" for line in fence.body)
-            yield Example(f"{page}:{fence.number}", script.encode(), f"{gives[1]}\n" if gives else "")
+            where, script = f"{page}:{fence.number}", text_of(fence).encode()
+            told = next(filter(None, below), "")
+            gives, runs = GIVES.match(told), RUNS.match(told)
+            yield checked(where, script, f"{gives[1]}\n" if gives else "")
+            if runs:
+                yield ran(where, script, runs[1], text_of(fences[place + 1][0]))
         elif fence.head not in OTHER_FENCES:
             sys.exit(f"{page}:{fence.number}: a fence of no known kind: {fence.head}")
+
+
+def text_of(fence):
+    """The lines of a block."""
+    return "".join(f"{line}\n" for line in fence.body)
 
 
 def indented(page, lines):
@@ -120,7 +140,7 @@ def indented(page, lines):
         printed = [line for _, line in block if PRINTED.match(line)]
         if printed:
             script = [line for _, line in block if not PRINTED.match(line)]
-            yield Example(f"{page}:{block[0][0]}", written(script), "".join(f"{line}\n" for line in printed))
+            yield checked(f"{page}:{block[0][0]}", written(script), "".join(f"{line}\n" for line in printed))
 
 
 def rows(page, lines):
@@ -128,7 +148,7 @@ def rows(page, lines):
     for number, line in lines:
         row = ROW.fullmatch(line)
         if row:
-            yield Example(f"{page}:{number}", written([row[1]]), f"{row[2]}\n")
+            yield checked(f"{page}:{number}", written([row[1]]), f"{row[2]}\n")
 
 
 def examples_of(page):
@@ -142,8 +162,8 @@ def main():
     program, tally = named(sys.argv[1]), Tally()
     for page in sorted((ROOT / "docs").glob("*.md")):
         for example in examples_of(page):
-            found = answer(program, example.words(), example.files())
-            tally.expect(found == example.wanted(), f"{example.where}: {found}, and the page says {example.printed!r}")
+            found = answer(program, example.words, example.files())
+            tally.expect(found == example.wanted, f"{example.where}: {found}, and the page says {example.wanted}")
     tally.end()
 
 

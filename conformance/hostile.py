@@ -9,6 +9,7 @@ usage: hostile.py GD      GD is the program, e.g. crates/gd_command/out/gd_comma
   token of a prefix.
 - A script of 1,048,577 bytes is too large, and one of 1,048,576 bytes is read.
 - 1,025 scripts are too many.
+- The runs of hostile_runs.py end as they should.
 The last line is 'N passed, M failed'.
 """
 import pathlib
@@ -17,6 +18,7 @@ import sys
 from typing import NamedTuple, Optional
 
 sys.path.insert(0, str(pathlib.Path(__file__).resolve().parent.parent / "tools"))
+from hostile_runs import RUNS
 from program import Answer, Tally, answer, named
 
 MIB = 1024 * 1024
@@ -134,6 +136,9 @@ def main():
     try_prefixes(program, tally)
     for what, files, wanted in SIZES:
         found = answer(program, ["check"], files)
+        tally.expect(found == wanted, f"{what}: {found}, where wanted is {wanted}")
+    for what, files, words, wanted in RUNS:
+        found = answer(program, words, files)
         tally.expect(found == wanted, f"{what}: {found}, where wanted is {wanted}")
     tally.end()
 

@@ -64,6 +64,10 @@ FAULTS = f"a.gd:{SYNTAX_FAULT.count(chr(10))}:10: error S01: syntax\nb.gd:2:10: 
 PRINTS = "func test():\n\tprint(42)\n\tpass\n\tprint(7)\n"
 LINES = range(1, 301)
 MANY_PRINTS = "func test():\n" + "".join(f"\tprint({number})\n" for number in LINES)
+ROUNDS = cases.load(HERE / "run" / "rounds-of-release.case")
+SIGNALS = cases.load(HERE / "run" / "one-shot-connections.case")
+STORE = cases.load(HERE / "run" / "three-scripts-of-a-store.case")
+SAMPLE = cases.load(HERE / "run" / "samples.case").runs[0]
 USAGE = cases.load(HERE / "run" / "words.case").runs[0].wanted
 
 CALLS = [
@@ -72,6 +76,10 @@ CALLS = [
     Call(["check"], {"a.gd": SYNTAX_FAULT.encode(), "b.gd": b"func f():\n\tvar x = 1.5\n"}, Answer(1, FAULTS.encode())),
     Call(["run", "main.gd"], {"main.gd": PRINTS.encode()}, Answer(0, b"42\n7\n")),
     Call(["run", "main.gd"], {"main.gd": MANY_PRINTS.encode()}, Answer(0, "".join(f"{it}\n" for it in LINES).encode())),
+    *(Call(run.words, ROUNDS.files, run.wanted) for run in ROUNDS.runs[:2]),
+    *(Call(run.words, SIGNALS.files, run.wanted) for run in SIGNALS.runs),
+    *(Call(run.words, STORE.files, run.wanted) for run in STORE.runs),
+    Call(SAMPLE.words, {}, SAMPLE.wanted),
     Call(["run"], {}, USAGE),
 ]
 

@@ -1,9 +1,10 @@
 mod CallLemmas
 mod CheckLemmas
-mod Close
+mod CompiledLemmas
+mod EndsLemmas
+mod ErrorLemmas
 mod JudgeLemmas
-mod LinesLemmas
 mod PutsLemmas
 mod RunLemmas
-mod StreamLemmas
+mod RunWordsLemmas
 mod WordsLemmas

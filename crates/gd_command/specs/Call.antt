@@ -1,5 +1,5 @@
 -- What a call of the program leaves in its sink.
-use Rattle.std.specs.Prelude.{◌≡◌, ◌≤◌, ℕ, List, [], ◌∷◌, ◌++◌, take, length, codes, Option, All}
+use Rattle.std.specs.Prelude.{◌≡◌, ◌≤◌, ℕ, List, ◌∷◌, ◌++◌, [], take, length, codes, Option, All}
 use Rattle.gd_outside.specs.Files.{File, place_of}
 use Rattle.gd_outside.specs.Sink.{Appends}
 use Rattle.gd_outside.specs.declared.shelf.FailedCall.{FailedCall}
@@ -7,11 +7,11 @@ use Rattle.gd_outside.specs.declared.shelf.FailedCall.TheVariants.{List as Listi
 use Rattle.gd_command.specs.Output.{Output, IsShort, scripts}
 use Rattle.gd_command.specs.Words.{Means}
 use Rattle.gd_command.specs.declared.words.Command.{Command}
-use Rattle.gd_command.specs.declared.words.Command.TheVariants.{Check, Run}
+use Rattle.gd_command.specs.declared.words.Command.TheVariants.{Check, Run, Sample}
 use Rattle.gd_command.specs.declared.status.Status.{Status}
 use Rattle.gd_command.specs.declared.status.Status.TheVariants.{Done, Faulty, Usage, RunError, OutOfTurns, ReadFault, WriteFault, NoMemory, TooLarge, NoMain, BadImage, NotBuilt, Refused, SuiteFailed}
 
--- a check comes to the script with this path: there are not too many scripts, and none before it is too long
+-- a check or a run comes to the script with this path: there are not too many scripts, and none before it is too long
 pub record IsReached (scripts : List File) (path : List ℕ) : Type 0 where
   pub few : length scripts ≤ 1024
   pub before : List File
@@ -20,16 +20,11 @@ pub record IsReached (scripts : List File) (path : List ℕ) : Type 0 where
   pub split : scripts ≡ before ++ ((path, bytes) ∷ after)
   pub short : All IsShort before
 
--- the only script has the path MAIN, and this is that path
-pub record IsOnly (scripts : List File) (main path : List ℕ) : Type 0 where
-  pub source : List ℕ
-  pub alone : scripts ≡ (main, source) ∷ []
-  pub same : path ≡ main
-
 -- the scripts that a command reads
 abbrev pub Reads : List File → Command → List ℕ → Type 0
 Reads files (Check _) path = IsReached (scripts files) path
-Reads files (Run main) path = IsOnly (scripts files) main path
+Reads files (Run _ _) path = IsReached (scripts files) path
+Reads files (Sample _) path = ⊥
 
 -- the words are a command that reads the script with this path
 abbrev pub WordsRead : List (List ℕ) → List File → List ℕ → Type 0
@@ -38,7 +33,8 @@ WordsRead words files path = (command : Command) × Means words command × Reads
 -- the line that names the call of the shelf that failed last: the list, or a read that the words come to
 pub data NamesFault (words : List (List ℕ)) (files : List File) (failed : FailedCall) : List ℕ → Type 0 where
   list_failed : failed ≡ Listing → NamesFault words files failed (codes "read fault: list\n")
-  read_failed : (path : List ℕ) → failed ≡ Read (place_of files path) → WordsRead words files path → NamesFault words files failed (codes "read fault: " ++ (path ++ (10 ∷ [])))
+  read_failed : (path : List ℕ) → failed ≡ Read (place_of files path) → WordsRead words files path
+      → NamesFault words files failed (codes "read fault: " ++ (path ++ (10 ∷ [])))
 
 -- the text is nothing yet, or the front of a text that the words write, or of a read fault's line where the shelf failed
 pub data IsBegun (words : List (List ℕ)) (files : List File) (failed : FailedCall) (rose : Type 0) : List ℕ → Type 0 where

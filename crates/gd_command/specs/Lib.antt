@@ -1,12 +1,11 @@
 pub mod Answer
 pub mod Call
 pub mod Check
-pub mod Close
+pub mod Compiled
+pub mod Ends
 pub mod Judged
-pub mod Lines
 pub mod Output
 pub mod Puts
 pub mod Report
-pub mod Steps
-pub mod Stream
+pub mod RunWords
 pub mod Words

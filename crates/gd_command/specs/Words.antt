@@ -1,11 +1,13 @@
 -- What the words of a command line mean.
-use Rattle.std.specs.Prelude.{◌≡◌, ℕ, Bool, true, false, ◌&&◌, if◌then◌else◌, List, [], ◌∷◌, Option, None, Some, map, codes, bytes_eq, String}
+use Rattle.std.specs.Prelude.{◌≡◌, ◌≤◌, ℕ, Bool, true, false, ◌&&◌, if◌then◌else◌, List, [], ◌∷◌, Option, None, Some, map, codes, decimal, bytes_eq, String}
 use Rattle.std.specs.String.{string_bytes}
 use Rattle.std.specs.declared.alloc.Global.{Global}
 use Rattle.gd_outside.specs.Path.{IsPath}
+use Rattle.gd_command.specs.RunWords.{MeansOptions}
+use Rattle.gd_command.specs.declared.run_options.RunOptions.{RunOptions}
 use Rattle.gd_command.specs.declared.words.CheckOptions.{CheckOptions}
 use Rattle.gd_command.specs.declared.words.Command.{Command}
-use Rattle.gd_command.specs.declared.words.Command.TheVariants.{Check, Run}
+use Rattle.gd_command.specs.declared.words.Command.TheVariants.{Check, Run, Sample}
 
 -- the words as bytes
 abbrev pub words_of : List (String Global) → List (List ℕ)
@@ -40,7 +42,21 @@ abbrev pub check_options : List (List ℕ) → Option CheckOptions
 check_options [] = None
 check_options (word ∷ options) = if bytes_eq word (codes "check") then options_behind options else None
 
+-- the words are `run`, a path, and the options of a run
+pub record IsRunOf (words : List (List ℕ)) (main : List ℕ) (run_options : RunOptions) : Type 0 where
+  pub behind : List (List ℕ)
+  pub form : words ≡ codes "run" ∷ main ∷ behind
+  pub path : IsPath main
+  pub options : MeansOptions behind run_options
+
+-- the words are `sample` and a number from 1 to 1,000
+pub record IsSampleOf (words : List (List ℕ)) (count : ℕ) : Type 0 where
+  pub form : words ≡ codes "sample" ∷ decimal count ∷ []
+  pub least : 1 ≤ count
+  pub most : count ≤ 1000
+
 -- the words are a form of this command
 abbrev pub Means : List (List ℕ) → Command → Type 0
 Means words (Check options) = check_options words ≡ Some options
-Means words (Run main) = (words ≡ codes "run" ∷ main ∷ []) × IsPath main
+Means words (Run main options) = IsRunOf words main options
+Means words (Sample count) = IsSampleOf words count

@@ -19,14 +19,14 @@ use no_memory::NoMemory;
 use std::alloc::{AllocError, AllocFailed, Global};
 
 /// The most scripts that a project has.
-const MAX_FILES: usize = 1024;
+pub const MAX_FILES: usize = 1024;
 
 /// The most bytes that the scripts of a project have together.
 const MAX_PROJECT: usize = 4_194_304;
 
 /// Why the scripts were not read.
 #[derive(Drop)]
-enum Unread {
+pub enum Unread {
     /// The script with this path could not be read.
     Failed(Path),
     /// The script with this path is too long.
@@ -83,7 +83,7 @@ pub fn check<H: Shelf>(
 
 /// The bytes of the scripts with these paths, in their order. Past the limit on all of them none are kept, but each script
 /// is read.
-fn read_scripts<H: Shelf>(
+pub fn read_scripts<H: Shelf>(
     alloc: Global,
     paths: &[Path],
     shelf: &mut H,

@@ -32,11 +32,11 @@ enum Reading {
 
 /// What is found in the texts of all scripts.
 #[derive(Drop)]
-struct Readings {
+pub struct Readings {
     /// The trees of the scripts without a fault, in order.
-    trees: Vec<Script>,
+    pub trees: Vec<Script>,
     /// The first fault of each other script, in order.
-    faults: Vec<Diag>,
+    pub faults: Vec<Diag>,
 }
 
 /// The report on the scripts with these paths and bytes.
@@ -79,7 +79,7 @@ fn analyse(
 }
 
 /// The scripts, each with its path.
-fn with_paths(
+pub fn with_paths(
     alloc: Global,
     paths: &[Path],
     trees: Vec<Script>,
@@ -109,7 +109,7 @@ fn marks_asked(
 
 /// The report of what the analysis found. That each place is in one of the scripts, and that no warning comes unasked, is
 /// for a later proof to show of the analysis.
-fn report_of(
+pub fn report_of(
     options: CheckOptions,
     paths: Vec<Path>,
     diags: Vec<Diag>,
@@ -150,7 +150,7 @@ fn are_errors(diags: &[Diag]) -> bool
 }
 
 /// What is found in each script.
-fn read_all(alloc: Global, sources: &[Vec<u8>]) -> Result<Readings, NoMemory>
+pub fn read_all(alloc: Global, sources: &[Vec<u8>]) -> Result<Readings, NoMemory>
     requires few { length sources.now ≤ 1024 }
     requires short { All IsShortSource sources.now }
     ensures finds { IfOk result (λ found. Finds (bytes_of sources.now) found.faults.items) }

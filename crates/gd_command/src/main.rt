@@ -3,14 +3,19 @@
 
 mod answer;
 mod check;
+mod compiled;
+mod decimal;
+mod figures;
 mod judge;
-mod machine;
 mod print;
+mod print_run;
+mod print_sample;
 mod project;
 mod report;
 mod run;
+mod run_options;
+mod sample;
 mod severity;
-mod source;
 mod status;
 mod stream;
 mod top;
@@ -36,7 +41,8 @@ fn main(rt: HostRuntime) -> ExitCode {
     };
     let mut out = StdSink::new(alloc, rt.stdout());
     let mut shelf = FolderShelf::new(rt);
-    let status = top::gd(alloc, &words, &mut shelf, &mut out);
+    let mut last = None;
+    let status = top::gd(alloc, &words, &mut shelf, &mut out, &mut last);
     let status = match out.flush() {
         Ok(()) => status,
         Err(_) => Status::WriteFault,

@@ -1,50 +1,63 @@
 //! Does what was decided: writes it to the sink, or runs it.
-ghost use Rattle.std.specs.Prelude.{◌≡◌, ◌<◌, codes, decimal, ◌++◌, [], ◌∷◌, All, IfOk, length};
+ghost use Rattle.std.specs.Prelude.{◌≡◌, ◌<◌, codes, decimal, ◌++◌, [], ◌∷◌, All, IfOk, OnErr, OnOk, length};
 ghost use Rattle.std.specs.List.{flat_map};
 ghost use Rattle.gd_outside.specs.Cause.{HasCause};
 ghost use Rattle.gd_outside.specs.declared.sink.SinkFault.TheVariants.{Failed};
 ghost use Rattle.gd_command.specs.Puts.{Puts};
-ghost use Rattle.gd_command.specs.Answer.{answer_status, answer_text};
+ghost use Rattle.gd_command.specs.Answer.{IsLeft, Performs};
+ghost use Rattle.gd_command.specs.Output.{long_function_line};
 ghost use Rattle.gd_command.specs.Report as spec;
 ghost use Rattle.gd_command.specs.Report.{diag_line, mark_line, path_at, report_status, report_text, severity_of, severity_word};
 ghost use Rattle.gd_rules.specs.Rule.{rule_code, rule_text};
 
 use crate::answer::Answer;
+use crate::print_sample::print_sample;
 use crate::report::Report;
 use crate::severity::{Severity, has_error};
 use crate::status::Status;
 use crate::stream::stream;
 use gd_outside::{Path, Sink, SinkFault};
 use gd_rules::{Diag, Mark, Rule};
+use gd_syntax::Pos;
+use gd_vm::Vm;
 use itoa::Buffer;
 use std::alloc::Global;
 
 const USAGE: &[u8] =
     b"usage: gd check [--warn] [--marks] / run MAIN [--turns N] [--frees] / build MAIN / exec IMAGE [--turns N] [--frees] / sample N / migrate IMAGE / fmt FILE / refs FILE LINE COLUMN / rename FILE LINE COLUMN NAME / suite [--turns N]\n";
 
-/// Writes the text of an answer, or runs the script that it names, and answers how the call ended.
+/// Writes the text of an answer, or runs the program that it has, and answers how the call ended. Then `last` is the
+/// machine of a run at its end, and as it was where nothing ran.
 ///
-/// After an `Err` a prefix of the text is written.
-pub fn perform<K: Sink>(alloc: Global, answer: &Answer, out: &mut K) -> Result<Status, SinkFault>
-    ensures puts { Puts (K.contents out.old) (answer_text answer.now) (K.contents out.new) result }
-    ensures status { IfOk result (λ status. status ≡ answer_status answer.now) }
+/// After an `Err` a prefix of the text is written, and `last` is as it was.
+pub fn perform<K: Sink>(
+    alloc: Global,
+    answer: Answer,
+    out: &mut K,
+    last: &mut Option<Vm>,
+) -> Result<Status, SinkFault>
+    ensures writes { Performs (K.contents out.old) answer (K.contents out.new) result }
+    ensures left { OnOk result (IsLeft answer last.old last.new) }
+    ensures unchanged { OnErr result (last.new ≡ last.old) }
     ensures cause { HasCause (K.faults out.old) (K.faults out.new) result Failed }
 {
     match answer {
         Answer::Usage => say(USAGE, Status::Usage, out),
         Answer::ListFault => say(b"read fault: list\n", Status::ReadFault, out),
-        Answer::ReadFault(path) => say_of(b"read fault: ", path.bytes(), Status::ReadFault, out),
-        Answer::NotBuilt => say(b"not built\n", Status::NotBuilt, out),
-        Answer::Runs(statements) => stream(alloc, statements.items(), out),
+        Answer::ReadFault(path) => say_of(b"read fault: ", &path, Status::ReadFault, out),
         Answer::TooManyFiles => say(b"too large: files\n", Status::TooLarge, out),
-        Answer::LongFile(path) => say_of(b"too large: file ", path.bytes(), Status::TooLarge, out),
+        Answer::LongFile(path) => say_of(b"too large: file ", &path, Status::TooLarge, out),
         Answer::LongProject => say(b"too large: project\n", Status::TooLarge, out),
-        Answer::Checked(report) => print_report(report, out),
+        Answer::Checked(report) => print_report(&report, out),
+        Answer::NoMain(path) => say_of(b"no main: ", &path, Status::NoMain, out),
+        Answer::LongFunction(path, pos) => say_long_function(&path, pos, out),
+        Answer::Runs(program, options) => stream(alloc, program, options, out, last),
+        Answer::Samples(sample) => print_sample(alloc, sample, out, last),
     }
 }
 
 /// Writes a text, and answers this status.
-fn say<K: Sink>(text: &[u8], status: Status, out: &mut K) -> Result<Status, SinkFault>
+pub fn say<K: Sink>(text: &[u8], status: Status, out: &mut K) -> Result<Status, SinkFault>
     ensures puts { Puts (K.contents out.old) text.now (K.contents out.new) result }
     ensures status { IfOk result (λ answered. answered ≡ status) }
     ensures cause { HasCause (K.faults out.old) (K.faults out.new) result Failed }
@@ -56,7 +69,7 @@ fn say<K: Sink>(text: &[u8], status: Status, out: &mut K) -> Result<Status, Sink
 /// Writes a text and a path, which end the line, and answers this status.
 fn say_of<K: Sink>(
     text: &[u8],
-    path: &[u8],
+    path: &Path,
     status: Status,
     out: &mut K,
 ) -> Result<Status, SinkFault>
@@ -65,8 +78,29 @@ fn say_of<K: Sink>(
     ensures cause { HasCause (K.faults out.old) (K.faults out.new) result Failed }
 {
     put(text, out)?;
-    print_line(path, out)?;
-    Ok(status)
+    put_path(path, out)?;
+    say(b"\n", status, out)
+}
+
+/// Writes that the function or class with its name at this place is too long.
+fn say_long_function<K: Sink>(path: &Path, pos: Pos, out: &mut K) -> Result<Status, SinkFault>
+    ensures puts { Puts (K.contents out.old) (long_function_line path.now pos) (K.contents out.new) result }
+    ensures status { IfOk result (λ answered. answered ≡ Status.TooLarge) }
+    ensures cause { HasCause (K.faults out.old) (K.faults out.new) result Failed }
+{
+    put(b"too large: function ", out)?;
+    put_path(path, out)?;
+    print_number(pos.line, out)?;
+    print_number(pos.column, out)?;
+    say(b"\n", Status::TooLarge, out)
+}
+
+/// Writes a path.
+fn put_path<K: Sink>(path: &Path, out: &mut K) -> Result<(), SinkFault>
+    ensures puts { Puts (K.contents out.old) path.now (K.contents out.new) result }
+    ensures cause { HasCause (K.faults out.old) (K.faults out.new) result Failed }
+{
+    put(path.bytes(), out)
 }
 
 /// Writes what a check found, and answers the status that it gives.
@@ -167,7 +201,7 @@ fn print_path<K: Sink>(paths: &[Path], file: u32, out: &mut K) -> Result<(), Sin
 }
 
 /// Writes a colon and a number.
-fn print_number<K: Sink>(number: u32, out: &mut K) -> Result<(), SinkFault>
+pub fn print_number<K: Sink>(number: u32, out: &mut K) -> Result<(), SinkFault>
     ensures puts { Puts (K.contents out.old) (58 ∷ decimal number) (K.contents out.new) result }
     ensures cause { HasCause (K.faults out.old) (K.faults out.new) result Failed }
 {
@@ -230,7 +264,7 @@ fn print_text<K: Sink>(rule: Rule, out: &mut K) -> Result<(), SinkFault>
 }
 
 /// Writes a piece.
-fn put<K: Sink>(piece: &[u8], out: &mut K) -> Result<(), SinkFault>
+pub fn put<K: Sink>(piece: &[u8], out: &mut K) -> Result<(), SinkFault>
     ensures puts { Puts (K.contents out.old) piece.now (K.contents out.new) result }
     ensures cause { HasCause (K.faults out.old) (K.faults out.new) result Failed }
 {

@@ -1,65 +1,81 @@
-//! Runs a script, and writes its lines as they come.
-ghost use Rattle.std.specs.Prelude.{◌≡◌, IfOk};
-ghost use Rattle.std.specs.List.{flat_map};
-ghost use Rattle.gd_meaning.specs.Run.{events_of};
+//! Runs a program, and writes its lines as they come.
+ghost use Rattle.std.specs.Prelude.{◌≡◌, IsSome, OnErr, OnOk};
 ghost use Rattle.gd_outside.specs.Cause.{HasCause};
 ghost use Rattle.gd_outside.specs.declared.sink.SinkFault.TheVariants.{Failed};
-ghost use Rattle.gd_command.specs.Output.{printed};
-ghost use Rattle.gd_command.specs.Puts.{Puts};
-ghost use Rattle.gd_command.specs.Steps.{outcome_status};
+ghost use Rattle.gd_command.specs.Answer.{Performs, WritesRun};
+ghost use Rattle.gd_command.specs.Puts.{Grows};
+ghost use Rattle.gd_command.specs.declared.answer.Answer.TheVariants.{Runs};
 
-use crate::machine::{Machine, Step};
-use crate::print::print_line;
+use crate::print_run::{print_end, print_step};
+use crate::run_options::RunOptions;
 use crate::status::Status;
-use gd_meaning::Statement;
-use gd_model::{Event, Outcome};
+use gd_bytecode::Program;
+use gd_model::{Outcome, impossible};
 use gd_outside::{Sink, SinkFault};
+use gd_vm::{Step, Vm};
 use std::alloc::Global;
 
-/// Runs these statements, writing each line as it comes, and answers how the run ended.
+/// How many steps of a machine go by, at most, before it is asked again.
+pub const STEPS: u32 = u32::MAX;
+
+/// Runs a program, writing each line as it comes, and answers how the run ended; then `last` is the machine at its end.
 ///
-/// After an `Err` a prefix of all lines is written.
+/// After an `Err` some of the lines are written, and `last` is as it was.
 pub fn stream<K: Sink>(
     alloc: Global,
-    statements: &[Statement],
+    program: Program,
+    options: RunOptions,
+    out: &mut K,
+    last: &mut Option<Vm>,
+) -> Result<Status, SinkFault>
+    ensures writes { Performs (K.contents out.old) (Runs program options) (K.contents out.new) result }
+    ensures last { OnOk result (IsSome last.new) }
+    ensures unchanged { OnErr result (last.new ≡ last.old) }
+    ensures cause { HasCause (K.faults out.old) (K.faults out.new) result Failed }
+{
+    let Ok(mut vm) = Vm::start(alloc, program, options.turns) else {
+        return Err(SinkFault::NoMemory);
+    };
+    match write_run(alloc, &mut vm, options.frees, out) {
+        Ok(status) => {
+            *last = Some(vm);
+            Ok(status)
+        }
+        Err(fault) => Err(fault),
+    }
+}
+
+/// Writes what is to be seen of a run and how it ends, and answers its status.
+fn write_run<K: Sink>(
+    alloc: Global,
+    vm: &mut Vm,
+    frees: bool,
     out: &mut K,
 ) -> Result<Status, SinkFault>
-    ensures puts { Puts (K.contents out.old) (flat_map printed (flat_map events_of statements.now)) (K.contents out.new) result }
-    ensures status { IfOk result (λ status. status ≡ Status.Done) }
+    ensures writes { WritesRun (K.contents out.old) (K.contents out.new) result }
     ensures cause { HasCause (K.faults out.old) (K.faults out.new) result Failed }
 {
-    let mut machine = Machine::new(statements);
-    loop {
-        match machine.step(alloc) {
-            Step::Quiet => {}
-            Step::Seen(event) => print_event(alloc, &event, out)?,
-            Step::Ended(outcome) => return Ok(ended(&outcome)),
+    let outcome = write_steps(alloc, vm, frees, out)?;
+    print_end(alloc, vm.program(), &outcome, out)
+}
+
+/// Writes what is to be seen of a run, step by step, and answers its end. No run takes as many steps as the loop has
+/// turns for: that it ends before is for a later proof to show.
+fn write_steps<K: Sink>(
+    alloc: Global,
+    vm: &mut Vm,
+    frees: bool,
+    out: &mut K,
+) -> Result<Outcome, SinkFault>
+    ensures lines { Grows (K.contents out.old) (K.contents out.new) }
+    ensures cause { HasCause (K.faults out.old) (K.faults out.new) result Failed }
+{
+    for _ in 0..u64::MAX {
+        match vm.advance(STEPS) {
+            Step::Ended(outcome) => return Ok(outcome),
             Step::NoMemory => return Err(SinkFault::NoMemory),
+            step => print_step(alloc, vm.program(), frees, &step, out)?,
         }
     }
-}
-
-/// Writes what is to be seen of an event.
-fn print_event<K: Sink>(alloc: Global, event: &Event, out: &mut K) -> Result<(), SinkFault>
-    ensures puts { Puts (K.contents out.old) (printed event.now) (K.contents out.new) result }
-    ensures cause { HasCause (K.faults out.old) (K.faults out.new) result Failed }
-{
-    match event {
-        Event::Line(text) => match text.to_utf8(alloc) {
-            Ok(bytes) => print_line(&bytes, out),
-            Err(_) => Err(SinkFault::NoMemory),
-        },
-        Event::Freed(_, _) | Event::Leaked(_, _) => Ok(()),
-    }
-}
-
-/// The status of a run that ended so.
-fn ended(outcome: &Outcome) -> Status
-    ensures { result ≡ outcome_status outcome.now }
-{
-    match outcome {
-        Outcome::Done => Status::Done,
-        Outcome::Fault(_, _, _) => Status::RunError,
-        Outcome::OutOfTurns => Status::OutOfTurns,
-    }
+    Err(SinkFault::from(impossible()))
 }

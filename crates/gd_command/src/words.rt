@@ -1,13 +1,19 @@
 //! The words of the command line, read by hand (docs/command-line.md).
-ghost use Rattle.std.specs.Prelude.{◌≡◌, IfOk, bytes_eq};
+ghost use Rattle.std.specs.Prelude.{◌≡◌, ℕ, List, IfOk, MatchOption, bytes_eq};
 ghost use Rattle.std.specs.String.{string_bytes};
 ghost use Rattle.gd_command.specs.Words as spec;
-ghost use Rattle.gd_command.specs.Words.{Means, check_options, options_behind, words_of};
+ghost use Rattle.gd_command.specs.Words.{IsRunOf, IsSampleOf, Means, check_options, options_behind, words_of};
+ghost use Rattle.gd_command.specs.declared.run_options.RunOptions.{RunOptions};
 ghost use Rattle.gd_command.specs.declared.words.Command.{Command};
 ghost use Rattle.gd_command.specs.declared.words.WordsFault.TheVariants.{NoForm};
 
+use crate::decimal::read_decimal;
+use crate::run_options::{RunOptions, read_run_options};
 use gd_outside::{Path, PathFault};
 use std::alloc::Global;
+
+/// The most classes of a sample.
+const MOST_SAMPLES: u32 = 1000;
 
 /// What a check is to print beside the errors.
 #[derive(Clone, Copy, Debug, PartialEq, Eq)]
@@ -23,8 +29,10 @@ pub struct CheckOptions {
 pub enum Command {
     /// `check [--warn] [--marks]`: checks the scripts of the project.
     Check(CheckOptions),
-    /// `run MAIN`: runs the script with this path.
-    Run(Path),
+    /// `run MAIN [--turns N] [--frees]`: runs the script with this path.
+    Run(Path, RunOptions),
+    /// `sample N`: checks and runs a project of so many classes, which is made up.
+    Sample(u32),
 }
 
 /// Why words gave no command.
@@ -43,16 +51,46 @@ pub fn read_words(alloc: Global, words: &[String]) -> Result<Command, WordsFault
     if let Some(options) = read_check(words) {
         return Ok(Command::Check(options));
     }
-    let [word, main] = words else {
+    if let Some(count) = read_sample(words) {
+        return Ok(Command::Sample(count));
+    }
+    read_run(alloc, words)
+}
+
+/// The run that these words ask for. `NoForm` where they ask for none.
+fn read_run(alloc: Global, words: &[String]) -> Result<Command, WordsFault>
+    ensures means { IfOk result (λ command. Means (words_of words.now) command) }
+    ensures no_form { result ≡ Err NoForm → (main : List ℕ) (options : RunOptions) → IsRunOf (words_of words.now) main options → ⊥ }
+{
+    let [run, main, options @ ..] = words else {
         return Err(WordsFault::NoForm);
     };
-    if word.as_str() != "run" {
+    if !is_word(run, "run") {
         return Err(WordsFault::NoForm);
     }
+    let Some(options) = read_run_options(options) else {
+        return Err(WordsFault::NoForm);
+    };
     match Path::new(alloc, main.as_str()) {
-        Ok(path) => Ok(Command::Run(path)),
+        Ok(path) => Ok(Command::Run(path, options)),
         Err(PathFault::Bad) => Err(WordsFault::NoForm),
         Err(PathFault::NoMemory) => Err(WordsFault::NoMemory),
+    }
+}
+
+/// The size of the sample, where these words ask for one.
+fn read_sample(words: &[String]) -> Option<u32>
+    ensures { MatchOption result ((count : ℕ) → IsSampleOf (words_of words.now) count → ⊥) (IsSampleOf (words_of words.now)) }
+{
+    let [sample, number] = words else {
+        return None;
+    };
+    if !is_word(sample, "sample") {
+        return None;
+    }
+    match read_decimal(number.as_str(), MOST_SAMPLES) {
+        Some(0) => None,
+        found => found,
     }
 }
 
@@ -114,7 +152,7 @@ fn options_of(warn: bool, marks: bool) -> CheckOptions
 }
 
 /// Whether a word is this text.
-fn is_word(word: &String, text: &str) -> bool
+pub fn is_word(word: &String, text: &str) -> bool
     ensures { result ≡ bytes_eq (string_bytes word.now) text.now }
 {
     word.as_str() == text
