@@ -35,12 +35,16 @@ impl Inference {
         table: &'x Table,
         declared: &'x Declared,
         class: u32,
-        body: &ClassDecl,
+        body: &'x ClassDecl,
     ) -> Result<(), NoMemory> {
         let mut index = 0u32;
         for member in body.members.as_slice() {
             if let DeclKind::Func(function) = &member.kind {
-                let site = Site::in_class(table, declared, class, function.is_static);
+                // A default value may call `super`, which is of this function.
+                let site = Site {
+                    function: Some(&function.name),
+                    ..Site::in_class(table, declared, class, function.is_static)
+                };
                 let id = MemberId { class, index };
                 if infers_parameter(function) {
                     self.scope.enter()?;

@@ -27,6 +27,8 @@ impl Inference {
         for &item in &items {
             self.find_item(alloc, table, declared, needs, item)?;
         }
+        // The last of them may have been settled as one of a cycle, still waiting; nothing waits behind this.
+        self.waits = IndexSet::new(alloc);
         Ok(())
     }
 
