@@ -61,21 +61,32 @@ pub fn alternatives_of(alloc: Global, branches: &[Branch]) -> Result<Alternative
     let whole = found.subject(Subject::Whole)?;
     for (branch, tree) in branches.iter().enumerate() {
         let branch = number(branch)?;
+        let mut is_taken = false;
         for pattern in tree.patterns.items() {
-            found.alternative(branch, whole, pattern)?;
+            is_taken = found.alternative(branch, whole, pattern, is_taken)?;
         }
     }
     Ok(found)
 }
 
 impl Alternatives {
-    // The tests of a pattern of a branch.
-    fn alternative(&mut self, branch: u32, whole: u32, pattern: &Pattern) -> Result<(), NoMemory> {
+    // The tests of a pattern of a branch. Behind one that tests nothing the branch is taken, and no later one of it is
+    // tried; the keys and expressions of those have their numbers all the same. Answers whether the branch is taken so.
+    fn alternative(
+        &mut self,
+        branch: u32,
+        whole: u32,
+        pattern: &Pattern,
+        is_taken: bool,
+    ) -> Result<bool, NoMemory> {
         let first = number(self.tests.len())?;
         self.pattern(whole, pattern)?;
+        if is_taken {
+            self.tests.truncate(first as usize);
+        }
         let end = number(self.tests.len())?;
         self.alternatives.push(Alternative { branch, first, end })?;
-        Ok(())
+        Ok(first == end)
     }
 
     // The tests of a pattern that looks at this subject. Kind and size come first, and then the parts in order: for a pair
