@@ -1,6 +1,6 @@
 #!/usr/bin/env python3
 """Calls the program where the outside fails: folders that cannot be listed, a script that cannot be read, an output that
-takes no more.
+takes nothing, or only so many bytes.
 
 usage: outside_faults.py GD      GD is the program, e.g. crates/gd_command/out/gd_command
 
@@ -10,14 +10,17 @@ failed'.
 """
 import os
 import pathlib
+import resource
 import shutil
 import subprocess
 import sys
+import tempfile
 from typing import Dict, List, NamedTuple
 
-sys.path.insert(0, str(pathlib.Path(__file__).resolve().parent.parent / "tools"))
+import cases  # (it also finds program.py)
 from program import LIMIT, Answer, Tally, named, project, run
 
+HERE = pathlib.Path(__file__).resolve().parent
 NOBODY = 65534
 WRITE_FAULT = 6
 LIST_FAULT = Answer(5, b"read fault: list\n")
@@ -137,12 +140,34 @@ def try_outputs(program, tally):
         tally.expect(status == row.status, f"{row.what} to a closed pipe: status {status}, where wanted is {row.status}")
 
 
+def with_room(program, words, folder, room):
+    """The answer of a run whose output takes this many bytes. Python leaves the signal of a full file ignored, so the write fails."""
+    with tempfile.TemporaryFile() as out:
+        how = {"cwd": folder, "stdin": subprocess.DEVNULL, "stdout": out, "stderr": subprocess.PIPE, "restore_signals": False}
+        limit = lambda: resource.setrlimit(resource.RLIMIT_FSIZE, (room, room))
+        ended = subprocess.run([str(program), *words], timeout=LIMIT, preexec_fn=limit, **how)
+        out.seek(0)
+        return Answer(ended.returncode, out.read(), ended.stderr)
+
+
+def try_rooms(program, tally):
+    """Runs a project with an output of each size up to that of what it prints: what was taken is the beginning of that."""
+    store = cases.load(HERE / "run" / "three-scripts-of-a-store.case")
+    words, whole = store.runs[0].words, store.runs[0].wanted
+    with project(store.files) as folder:
+        for room in range(len(whole.output) + 1):
+            wanted = whole if room == len(whole.output) else Answer(WRITE_FAULT, whole.output[:room])
+            found = with_room(program, words, folder, room)
+            tally.expect(found == wanted, f"room for {room} bytes: {found}, where wanted is {wanted}")
+
+
 def main():
     program, tally = named(sys.argv[1]), Tally()
     try_listings(program, tally)
     try_links(program, tally)
     try_rights(program, tally)
     try_outputs(program, tally)
+    try_rooms(program, tally)
     tally.end()
 
 

@@ -64,6 +64,7 @@ FAULTS = f"a.gd:{SYNTAX_FAULT.count(chr(10))}:10: error S01: syntax\nb.gd:2:10: 
 PRINTS = "func test():\n\tprint(42)\n\tpass\n\tprint(7)\n"
 LINES = range(1, 301)
 MANY_PRINTS = "func test():\n" + "".join(f"\tprint({number})\n" for number in LINES)
+CIRCLE = cases.load(HERE / "check" / "variables-in-a-circle.case")
 ROUNDS = cases.load(HERE / "run" / "rounds-of-release.case")
 SIGNALS = cases.load(HERE / "run" / "one-shot-connections.case")
 STORE = cases.load(HERE / "run" / "three-scripts-of-a-store.case")
@@ -74,6 +75,7 @@ CALLS = [
     Call(["check"], {"good.gd": FORMS.encode()}, Answer(0, b"")),
     Call(["check"], cases.load(HERE / "check" / "a-shop.case").files, Answer(0, b"")),
     Call(["check"], {"a.gd": SYNTAX_FAULT.encode(), "b.gd": b"func f():\n\tvar x = 1.5\n"}, Answer(1, FAULTS.encode())),
+    *(Call(run.words, CIRCLE.files, run.wanted) for run in CIRCLE.runs),
     Call(["run", "main.gd"], {"main.gd": PRINTS.encode()}, Answer(0, b"42\n7\n")),
     Call(["run", "main.gd"], {"main.gd": MANY_PRINTS.encode()}, Answer(0, "".join(f"{it}\n" for it in LINES).encode())),
     *(Call(run.words, ROUNDS.files, run.wanted) for run in ROUNDS.runs[:2]),
